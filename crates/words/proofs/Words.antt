@@ -1,0 +1,150 @@
+-- Laws of words: what is put is what is got, and back; a padded field. Assumes nothing.
+use Prim.Native.Nat.{ℕ, zero, suc, _+_, _-_, _*_, _/_, _%_, _≤_, _<_}
+use mathlib.Core.Path.{_≡_, refl, sym, _∙_, ap}
+use mathlib.Core.List.{List, [], _∷_, _++_, append-assoc, append-nil}
+use native.Mathlib.Omega.{arith}
+use lib.ListN.{length, take, drop, getD, set, replicate, length-append, length-take, length-drop, length-replicate, getD-replicate, take-append-drop, List·getD-eq-default}
+use lib.Seq.{drop-cons, take-add, drop-drop, length-take-le, sets-eq, getD-take, getD-drop, ext-getD}
+use mathlib.Core.Logic.{_⊎_, inl, inr}
+use mathlib.Core.Bool.{Bool, true, false}
+use lib.Dec.{ltb}
+use borrow.Author.Tests.{ltb-true, ltb-false}
+use Rattle.words.specs.Be.{Bytes, be64, get64, bes, wordsAt}
+use Rattle.words.specs.Areas.{pad, putAt, Zero}
+
+digits : (a b c d e f g h : ℕ) → a < 256 → b < 256 → c < 256 → d < 256 → e < 256 → f < 256 → g < 256 → h < 256
+    → be64 (a * 72057594037927936 + b * 281474976710656 + c * 1099511627776 + d * 4294967296 + e * 16777216 + f * 65536 + g * 256 + h)
+    ≡ a ∷ b ∷ c ∷ d ∷ e ∷ f ∷ g ∷ h ∷ []
+unfolding be64
+digits a b c d e f g h ha hb hc hd he hf hg hh =
+    let n : ℕ = a * 72057594037927936 + b * 281474976710656 + c * 1099511627776 + d * 4294967296 + e * 16777216 + f * 65536 + g * 256 + h in
+    let e0 : n / 72057594037927936 % 256 ≡ a = omega arith in
+    let e1 : n / 281474976710656 % 256 ≡ b = omega arith in
+    let e2 : n / 1099511627776 % 256 ≡ c = omega arith in
+    let e3 : n / 4294967296 % 256 ≡ d = omega arith in
+    let e4 : n / 16777216 % 256 ≡ e = omega arith in
+    let e5 : n / 65536 % 256 ≡ f = omega arith in
+    let e6 : n / 256 % 256 ≡ g = omega arith in
+    let e7 : n % 256 ≡ h = omega arith in
+    cc
+
+eight : (s : List ℕ) (at : ℕ) → at + 8 ≤ length s
+    → take 8 (drop at s) ≡ getD s at 0 ∷ getD s (at + 1) 0 ∷ getD s (at + 2) 0 ∷ getD s (at + 3) 0 ∷ getD s (at + 4) 0 ∷ getD s (at + 5) 0 ∷ getD s (at + 6) 0 ∷ getD s (at + 7) 0 ∷ []
+eight s at h =
+    let e1 : at + 1 ≡ suc at = omega arith in
+    let e2 : at + 2 ≡ suc (suc at) = omega arith in
+    let e3 : at + 3 ≡ suc (suc (suc at)) = omega arith in
+    let e4 : at + 4 ≡ suc (suc (suc (suc at))) = omega arith in
+    let e5 : at + 5 ≡ suc (suc (suc (suc (suc at)))) = omega arith in
+    let e6 : at + 6 ≡ suc (suc (suc (suc (suc (suc at))))) = omega arith in
+    let e7 : at + 7 ≡ suc (suc (suc (suc (suc (suc (suc at)))))) = omega arith in
+    rw (
+      e1,
+      e2,
+      e3,
+      e4,
+      e5,
+      e6,
+      e7,
+      drop-cons s at 0 (omega arith),
+      drop-cons s (suc at) 0 (omega arith),
+      drop-cons s (suc (suc at)) 0 (omega arith),
+      drop-cons s (suc (suc (suc at))) 0 (omega arith),
+      drop-cons s (suc (suc (suc (suc at)))) 0 (omega arith),
+      drop-cons s (suc (suc (suc (suc (suc at))))) 0 (omega arith),
+      drop-cons s (suc (suc (suc (suc (suc (suc at)))))) 0 (omega arith),
+      drop-cons s (suc (suc (suc (suc (suc (suc (suc at))))))) 0 (omega arith),
+    )
+
+-- what a word's bytes are, is what stands there
+pub word-back : (s : List ℕ) (at : ℕ) → Bytes s → at + 8 ≤ length s → be64 (get64 s at) ≡ take 8 (drop at s)
+unfolding get64
+word-back s at b h =
+    digits _ _ _ _ _ _ _ _ (b at) (b (at + 1)) (b (at + 2)) (b (at + 3)) (b (at + 4)) (b (at + 5)) (b (at + 6)) (b (at + 7)) ∙ sym (eight s at h)
+
+pub words-back : (s : List ℕ) (at n : ℕ) → Bytes s → at + 8 * n ≤ length s → bes (wordsAt s at n) ≡ take (8 * n) (drop at s)
+unfolding bes wordsAt
+words-back s at zero b h = refl
+words-back s at (suc n) b h =
+    let e : 8 * suc n ≡ 8 + 8 * n = omega arith in
+    rw (e, take-add 8 (8 * n) (drop at s), drop-drop 8 at s, word-back s at b (omega arith), words-back s (at + 8) n b (omega arith))
+
+-- a field of `size` bytes whose bytes past the first n are zero
+pub field : (s : List ℕ) (a n size : ℕ) → a + size ≤ length s → n ≤ size
+    → Zero (take (a + size - (a + n)) (drop (a + n) s)) → take size (drop a s) ≡ pad size (take n (drop a s))
+unfolding pad
+field s a n size h k z =
+    let l : length (take n (drop a s)) ≡ n = length-take-le n (drop a s) (simp length-drop (omega arith)) in
+    let e : size ≡ n + (size - n) = omega arith in
+    let f : a + size - (a + n) ≡ size - n = omega arith in
+    let g : length (take (a + size - (a + n)) (drop (a + n) s)) ≡ a + size - (a + n) = length-take-le _ _ (simp length-drop (omega arith)) in
+    ap (λ (m : ℕ). take m (drop a s)) e ∙ take-add n (size - n) (drop a s) ∙ rw (drop-drop n a s, l, ← f, z, g)
+
+pub word-fits : (s : List ℕ) (at : ℕ) → Bytes s → get64 s at < 18446744073709551616
+unfolding get64
+word-fits s at b = omega (arith, b at, b (at + 1), b (at + 2), b (at + 3), b (at + 4), b (at + 5), b (at + 6), b (at + 7))
+
+pub test : (b : Bool) → (b ≡ true) ⊎ (b ≡ false)
+test true = inl refl
+test false = inr refl
+
+pub lt-or-le : (m n : ℕ) → (m < n) ⊎ (n ≤ m)
+lt-or-le m n = elim (test (ltb m n)) [ inl h ↦ inl (ltb-true m n h) | inr h ↦ inr (ltb-false m n h) ]
+
+pub bytes-part : (s : List ℕ) (a n : ℕ) → Bytes s → Bytes (take n (drop a s))
+bytes-part s a n b i =
+    elim (lt-or-le i n) [
+      | inr h ↦ rw (List·getD-eq-default (take n (drop a s)) 0 {n = i} (simp length-take (omega arith))) (omega arith)
+      | inl h ↦ rw (getD-take n (drop a s) i 0 h, getD-drop a s i 0) (b (a + i))
+    ]
+
+-- eight digits, with no division
+chain : (v a b c d e f g p q r s t u w x : ℕ) → v ≡ a * 256 + p → a ≡ b * 256 + q → b ≡ c * 256 + r → c ≡ d * 256 + s → d ≡ e * 256 + t → e ≡ f * 256 + u → f ≡ g * 256 + w → g ≡ x
+    → x * 72057594037927936 + w * 281474976710656 + u * 1099511627776 + t * 4294967296 + s * 16777216 + r * 65536 + q * 256 + p ≡ v
+chain v a b c d e f g p q r s t u w x h1 h2 h3 h4 h5 h6 h7 h8 = omega arith
+
+-- a word that is written is read
+pub word-there : (v : ℕ) (q : List ℕ) → v < 18446744073709551616 → get64 (be64 v ++ q) 0 ≡ v
+unfolding be64 get64
+word-there v q h =
+    chain v (v / 256) (v / 65536) (v / 16777216) (v / 4294967296) (v / 1099511627776) (v / 281474976710656) (v / 72057594037927936)
+    (v % 256) (v / 256 % 256) (v / 65536 % 256) (v / 16777216 % 256) (v / 4294967296 % 256) (v / 1099511627776 % 256) (v / 281474976710656 % 256) (v / 72057594037927936 % 256)
+    (omega arith) (omega arith) (omega arith) (omega arith) (omega arith) (omega arith) (omega arith) (omega arith)
+
+pub word-drop : (s : List ℕ) (a b : ℕ) → get64 (drop a s) b ≡ get64 s (a + b)
+unfolding get64
+word-drop s a b =
+    let e1 : a + (b + 1) ≡ a + b + 1 = omega arith in
+    let e2 : a + (b + 2) ≡ a + b + 2 = omega arith in
+    let e3 : a + (b + 3) ≡ a + b + 3 = omega arith in
+    let e4 : a + (b + 4) ≡ a + b + 4 = omega arith in
+    let e5 : a + (b + 5) ≡ a + b + 5 = omega arith in
+    let e6 : a + (b + 6) ≡ a + b + 6 = omega arith in
+    let e7 : a + (b + 7) ≡ a + b + 7 = omega arith in
+    simp (getD-drop, e1, e2, e3, e4, e5, e6, e7)
+
+pub length-pad : (n : ℕ) (l : List ℕ) → length l ≤ n → length (pad n l) ≡ n
+unfolding pad
+length-pad n l h = simp (length-append, length-replicate) (omega arith)
+
+pub zero-all : (s : List ℕ) (i : ℕ) → length s ≤ i → ((k : ℕ) → k < i → getD s k 0 ≡ 0) → Zero s
+zero-all s i h z =
+    ext-getD 0 s (replicate (length s) 0) (sym (length-replicate (length s) 0))
+    (λ k l. z k (omega arith) ∙ sym (getD-replicate (length s) k 0 0 l))
+
+pub zero-not : (s : List ℕ) (i : ℕ) → i < length s → (getD s i 0 ≡ 0 → ⊥) → Zero s → ⊥
+zero-not s i h n z = n (ap (λ (l : List ℕ). getD l i 0) z ∙ getD-replicate (length s) i 0 0 h)
+
+-- eight stores in a row
+pub put8 : (l : List ℕ) (i a b c d e f g h : ℕ) → i + 8 ≤ length l
+    → set (set (set (set (set (set (set (set l i a) (i + 1) b) (i + 2) c) (i + 3) d) (i + 4) e) (i + 5) f) (i + 6) g) (i + 7) h
+    ≡ take i l ++ (a ∷ b ∷ c ∷ d ∷ e ∷ f ∷ g ∷ h ∷ []) ++ drop (i + 8) l
+put8 l i a b c d e f g h k =
+    let e1 : i + 1 ≡ suc i = omega arith in
+    let e2 : i + 2 ≡ suc (suc i) = omega arith in
+    let e3 : i + 3 ≡ suc (suc (suc i)) = omega arith in
+    let e4 : i + 4 ≡ suc (suc (suc (suc i))) = omega arith in
+    let e5 : i + 5 ≡ suc (suc (suc (suc (suc i)))) = omega arith in
+    let e6 : i + 6 ≡ suc (suc (suc (suc (suc (suc i))))) = omega arith in
+    let e7 : i + 7 ≡ suc (suc (suc (suc (suc (suc (suc i)))))) = omega arith in
+    rw (e1, e2, e3, e4, e5, e6, e7) (sets-eq (a ∷ b ∷ c ∷ d ∷ e ∷ f ∷ g ∷ h ∷ []) l i k)

@@ -1,0 +1,3 @@
+pub mod Be
+pub mod Areas
+pub mod Choice
