@@ -1,0 +1,5 @@
+pub mod Shortest
+pub mod Steps
+pub mod Reader
+pub mod Writer
+pub mod Laws

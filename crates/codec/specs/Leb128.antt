@@ -1,0 +1,31 @@
+-- Unsigned LEB128, from DWARF 5, section 7.6: a number is cut into groups of seven bits, the least significant first, each
+-- in the low bits of a byte whose high bit is set on all but the last. Assumes nothing.
+use Prim.Native.Nat.{ℕ, zero, suc, _+_, _*_, _/_, _%_, _^_}
+use mathlib.Core.Bool.{Bool, true, false}
+use mathlib.Core.List.{List, [], _∷_}
+use lib.Dec.{ltb}
+use Rattle.words.specs.Choice.{pick}
+
+-- the bytes of one number: up to and with the first whose high bit is clear; all where there is none
+unfoldable pub groups : List ℕ → List ℕ
+groups [] = []
+groups (b ∷ bs) = b ∷ pick (ltb b 128) [] (groups bs)
+
+-- some byte has its high bit clear: the number ends
+unfoldable pub ends : List ℕ → Bool
+ends [] = false
+ends (b ∷ bs) = pick (ltb b 128) true (ends bs)
+
+-- the value of a sequence: the sum of its groups, the first at bit k, each next one seven bits higher
+unfoldable pub valueOf : ℕ → List ℕ → ℕ
+valueOf k [] = 0
+valueOf k (b ∷ bs) = b % 128 * 2 ^ k + valueOf (k + 7) bs
+
+-- the groups of v, where at most n follow the first
+unfoldable pub groupsOf : ℕ → ℕ → List ℕ
+groupsOf zero v = v % 128 ∷ []
+groupsOf (suc n) v = pick (ltb v 128) (v ∷ []) ((v % 128 + 128) ∷ groupsOf n (v / 128))
+
+-- the shortest sequence of v: no group is left out, and no group above the highest bit is added. (v groups are always enough)
+unfoldable pub shortest : ℕ → List ℕ
+shortest v = groupsOf v v

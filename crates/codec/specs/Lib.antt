@@ -1,0 +1,5 @@
+pub mod Leb128
+pub mod Reading
+pub mod Writing
+pub mod Envelopes
+pub mod Parts
