@@ -1,6 +1,8 @@
 //! Runs the port against the Rust original: `differential [SUITE...]`, all suites without a name.
 
 #![deny(warnings)]
+// Without the original some helpers have no user.
+#![cfg_attr(not(oracle_present), allow(dead_code))]
 #![forbid(unsafe_code)]
 
 mod area;
