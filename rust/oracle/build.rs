@@ -30,10 +30,12 @@ fn main() {
     let source = source_folder(&root).join("src");
     let present = watch(&source);
     println!("cargo::metadata=present={}", u8::from(present));
+    let target = PathBuf::from(var("OUT_DIR")).join("original");
     if !present {
+        // A file that never exists: cargo looks again at the next build.
+        println!("cargo::rerun-if-changed={}/absent", target.display());
         return;
     }
-    let target = PathBuf::from(var("OUT_DIR")).join("original");
     for file in FILES {
         copy(&source.join(file), &target.join(file));
     }

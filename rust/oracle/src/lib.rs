@@ -2,10 +2,6 @@
 //!
 //! Without the source this crate is empty and `PRESENT` is false.
 
-#![cfg_attr(not(oracle_present), no_std)]
-// The original is compiled as it stands.
-#![allow(warnings)]
-
 extern crate alloc;
 
 /// Whether the original's source was there when this was built.
