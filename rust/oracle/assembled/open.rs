@@ -51,6 +51,12 @@ impl<'a> Reader<'a> {
 /// The original's encoder.
 pub struct Writer(codec::Writer);
 
+impl Default for Writer {
+    fn default() -> Self {
+        Self::new()
+    }
+}
+
 impl Writer {
     pub fn new() -> Self {
         Self(codec::Writer::new())
