@@ -1,7 +1,7 @@
 //! Runs the port against the Rust original: `differential [SUITE...]`, all suites without a name.
 
 #![deny(warnings)]
-// Without the original some helpers have no user.
+// Without the original some shared functions have no caller.
 #![cfg_attr(not(oracle_present), allow(dead_code))]
 #![forbid(unsafe_code)]
 
