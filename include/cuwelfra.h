@@ -1,0 +1,146 @@
+/* The exported calls of libcuwelfra.a. A slice is a pointer and a length; a slice that is only read is const. */
+#ifndef CUWELFRA_H
+#define CUWELFRA_H
+
+#include <stddef.h>
+#include <stdint.h>
+
+#ifdef __cplusplus
+extern "C" {
+#endif
+
+/* A refusal. number 0: not refused; else document 01's number and the values that it carries. */
+typedef struct {
+    uint64_t number;
+    uint64_t first;
+    uint64_t second;
+} cuwelfra_told;
+
+/* A number that was read and the position past it; both 0 when refused. */
+typedef struct {
+    cuwelfra_told told;
+    uint64_t value;
+    uint64_t next;
+} cuwelfra_number_read;
+
+/* A part of the slice that was read; all 0 when refused. */
+typedef struct {
+    cuwelfra_told told;
+    uint64_t start;
+    uint64_t len;
+    uint64_t next;
+} cuwelfra_part_read;
+
+/* The position past what was written; 0 when refused. */
+typedef struct {
+    cuwelfra_told told;
+    uint64_t next;
+} cuwelfra_written;
+
+/* An envelope's sender and where its body and signature stand; all 0 when refused. */
+typedef struct {
+    cuwelfra_told told;
+    uint64_t sender;
+    uint64_t body_at;
+    uint64_t body_len;
+    uint64_t sig_at;
+    uint64_t sig_len;
+} cuwelfra_envelope_read;
+
+/* A hybrid clock. */
+typedef struct {
+    uint64_t actor;
+    uint64_t last_wall;
+    uint64_t last_counter;
+    uint64_t max_drift_ms;
+} cuwelfra_hybrid;
+
+/* A new stamp and the clock moved on. Refused: the stamp is 0, last_* as handed in. */
+typedef struct {
+    cuwelfra_told told;
+    uint64_t wall_time;
+    uint64_t logical_counter;
+    uint64_t actor_id;
+    uint64_t last_wall;
+    uint64_t last_counter;
+} cuwelfra_issued_stamp;
+
+/* The clock moved on. Refused: last_* as handed in. */
+typedef struct {
+    cuwelfra_told told;
+    uint64_t last_wall;
+    uint64_t last_counter;
+} cuwelfra_updated_clock;
+
+/* A number that a clock call gives; 0 when refused. */
+typedef struct {
+    cuwelfra_told told;
+    uint64_t number;
+} cuwelfra_clock_number;
+
+/* ---- Bytes */
+
+/* How many bytes the shortest varint of v has. */
+size_t cuwelfra_varint_len(uint64_t v);
+/* Write at position at of out; 2 when the room is short, and nothing is written. */
+cuwelfra_written cuwelfra_put_varint(uint8_t *out, size_t out_len, size_t at, uint64_t v);
+cuwelfra_written cuwelfra_put_u8(uint8_t *out, size_t out_len, size_t at, uint8_t b);
+/* Length first, then the bytes. */
+cuwelfra_written cuwelfra_put_bytes(uint8_t *out, size_t out_len, size_t at, const uint8_t *bytes, size_t bytes_len);
+/* Read at position at of s; 22 to 24 when refused. */
+cuwelfra_number_read cuwelfra_get_u8(const uint8_t *s, size_t s_len, size_t at);
+cuwelfra_number_read cuwelfra_get_varint(const uint8_t *s, size_t s_len, size_t at);
+cuwelfra_number_read cuwelfra_get_u32(const uint8_t *s, size_t s_len, size_t at);
+/* At most max, and at most the bytes that remain. */
+cuwelfra_number_read cuwelfra_get_count(const uint8_t *s, size_t s_len, size_t at, uint64_t max);
+cuwelfra_part_read cuwelfra_get_bytes(const uint8_t *s, size_t s_len, size_t at, uint64_t max);
+/* 25 when bytes remain. */
+cuwelfra_told cuwelfra_finish(const uint8_t *s, size_t s_len, size_t at);
+/* Writes at the start of out. */
+cuwelfra_written cuwelfra_encode_envelope(uint8_t *out, size_t out_len, uint64_t sender, const uint8_t *body,
+                                          size_t body_len, const uint8_t *sig, size_t sig_len);
+/* The envelope must fill all of s. */
+cuwelfra_envelope_read cuwelfra_decode_envelope(const uint8_t *s, size_t s_len);
+
+/* ---- Stamps and the hybrid clock, which goes in by value and comes back moved on */
+
+/* 0 less, 1 equal, 2 greater. */
+uint64_t cuwelfra_timestamp_cmp(uint64_t wall_a, uint32_t counter_a, uint64_t actor_a, uint64_t wall_b,
+                                uint32_t counter_b, uint64_t actor_b);
+cuwelfra_hybrid cuwelfra_hybrid_new(uint64_t actor);
+cuwelfra_hybrid cuwelfra_hybrid_set_max_drift(uint64_t actor, uint64_t last_wall, uint32_t last_counter,
+                                              uint64_t max_drift_ms, uint64_t new_max_drift_ms);
+/* 19 when the counter cannot grow. */
+cuwelfra_issued_stamp cuwelfra_hybrid_now(uint64_t actor, uint64_t last_wall, uint32_t last_counter,
+                                          uint64_t max_drift_ms, uint64_t physical);
+/* 20 when the remote stamp is beyond the drift, then 19. */
+cuwelfra_updated_clock cuwelfra_hybrid_update(uint64_t actor, uint64_t last_wall, uint32_t last_counter,
+                                              uint64_t max_drift_ms, uint64_t remote_wall, uint32_t remote_counter,
+                                              uint64_t remote_actor, uint64_t physical);
+
+/* ---- Vector clocks
+   A clock area is 65 big-endian 64-bit words: count, then 32 pairs of author and number, authors strictly rising,
+   unused places zero. A shorter area is 2, one that breaks the rules 1. Later bytes are neither tested nor touched. */
+
+#define CUWELFRA_CLOCK_BYTES 520
+
+cuwelfra_told cuwelfra_clock_new(uint8_t *clock, size_t clock_len);
+/* The author's number, 0 if absent. */
+cuwelfra_clock_number cuwelfra_clock_get(const uint8_t *clock, size_t clock_len, uint64_t actor);
+/* 18 when a new author finds 32. */
+cuwelfra_told cuwelfra_clock_observe(uint8_t *clock, size_t clock_len, uint64_t actor, uint64_t seq);
+/* Gives the new number; 18, or 19 when it cannot grow. */
+cuwelfra_clock_number cuwelfra_clock_increment(uint8_t *clock, size_t clock_len, uint64_t actor);
+cuwelfra_told cuwelfra_clock_merge(uint8_t *clock, size_t clock_len, const uint8_t *other, size_t other_len);
+/* 1 or 0. */
+cuwelfra_clock_number cuwelfra_clock_dominates(const uint8_t *clock, size_t clock_len, const uint8_t *other,
+                                               size_t other_len);
+/* 0 before, 1 after, 2 equal, 3 concurrent. */
+cuwelfra_clock_number cuwelfra_clock_compare(const uint8_t *clock, size_t clock_len, const uint8_t *other,
+                                             size_t other_len);
+
+#ifdef __cplusplus
+}
+#endif
+
+#endif

@@ -1,0 +1,93 @@
+//! The declarations. The calls take any values; each pointer must be good for its length.
+
+use crate::*;
+
+#[allow(missing_docs)]
+extern "C" {
+    // Bytes.
+    pub fn cuwelfra_varint_len(v: u64) -> usize;
+    pub fn cuwelfra_put_varint(out: *mut u8, out_len: usize, at: usize, v: u64) -> Written;
+    pub fn cuwelfra_put_u8(out: *mut u8, out_len: usize, at: usize, b: u8) -> Written;
+    pub fn cuwelfra_put_bytes(
+        out: *mut u8,
+        out_len: usize,
+        at: usize,
+        bytes: *const u8,
+        bytes_len: usize,
+    ) -> Written;
+    pub fn cuwelfra_get_u8(s: *const u8, s_len: usize, at: usize) -> NumberRead;
+    pub fn cuwelfra_get_varint(s: *const u8, s_len: usize, at: usize) -> NumberRead;
+    pub fn cuwelfra_get_u32(s: *const u8, s_len: usize, at: usize) -> NumberRead;
+    pub fn cuwelfra_get_count(s: *const u8, s_len: usize, at: usize, max: u64) -> NumberRead;
+    pub fn cuwelfra_get_bytes(s: *const u8, s_len: usize, at: usize, max: u64) -> PartRead;
+    pub fn cuwelfra_finish(s: *const u8, s_len: usize, at: usize) -> Told;
+    pub fn cuwelfra_encode_envelope(
+        out: *mut u8,
+        out_len: usize,
+        sender: u64,
+        body: *const u8,
+        body_len: usize,
+        sig: *const u8,
+        sig_len: usize,
+    ) -> Written;
+    pub fn cuwelfra_decode_envelope(s: *const u8, s_len: usize) -> EnvelopeRead;
+
+    // Stamps and the hybrid clock.
+    pub fn cuwelfra_timestamp_cmp(
+        wall_a: u64,
+        counter_a: u32,
+        actor_a: u64,
+        wall_b: u64,
+        counter_b: u32,
+        actor_b: u64,
+    ) -> u64;
+    pub fn cuwelfra_hybrid_new(actor: u64) -> Hybrid;
+    pub fn cuwelfra_hybrid_set_max_drift(
+        actor: u64,
+        last_wall: u64,
+        last_counter: u32,
+        max_drift_ms: u64,
+        new_max_drift_ms: u64,
+    ) -> Hybrid;
+    pub fn cuwelfra_hybrid_now(
+        actor: u64,
+        last_wall: u64,
+        last_counter: u32,
+        max_drift_ms: u64,
+        physical: u64,
+    ) -> IssuedStamp;
+    pub fn cuwelfra_hybrid_update(
+        actor: u64,
+        last_wall: u64,
+        last_counter: u32,
+        max_drift_ms: u64,
+        remote_wall: u64,
+        remote_counter: u32,
+        remote_actor: u64,
+        physical: u64,
+    ) -> UpdatedClock;
+
+    // Vector clocks.
+    pub fn cuwelfra_clock_new(clock: *mut u8, clock_len: usize) -> Told;
+    pub fn cuwelfra_clock_get(clock: *const u8, clock_len: usize, actor: u64) -> ClockNumber;
+    pub fn cuwelfra_clock_observe(clock: *mut u8, clock_len: usize, actor: u64, seq: u64) -> Told;
+    pub fn cuwelfra_clock_increment(clock: *mut u8, clock_len: usize, actor: u64) -> ClockNumber;
+    pub fn cuwelfra_clock_merge(
+        clock: *mut u8,
+        clock_len: usize,
+        other: *const u8,
+        other_len: usize,
+    ) -> Told;
+    pub fn cuwelfra_clock_dominates(
+        clock: *const u8,
+        clock_len: usize,
+        other: *const u8,
+        other_len: usize,
+    ) -> ClockNumber;
+    pub fn cuwelfra_clock_compare(
+        clock: *const u8,
+        clock_len: usize,
+        other: *const u8,
+        other_len: usize,
+    ) -> ClockNumber;
+}

@@ -1,0 +1,25 @@
+//! The exported calls of the static library, and a safe function for each.
+//!
+//! A slice goes over as a pointer and a length. The answers are handed on as they come.
+
+#![deny(warnings, missing_docs)]
+
+pub mod ffi;
+
+mod clocks;
+mod codec;
+
+pub use clocks::*;
+pub use codec::*;
+
+/// A refusal as numbers. `number` 0: not refused; else document 01's number and its values.
+#[repr(C)]
+#[derive(Clone, Copy, Debug, Default, PartialEq, Eq)]
+pub struct Told {
+    /// Document 01's number of the refusal.
+    pub number: u64,
+    /// The first value that it carries, else 0.
+    pub first: u64,
+    /// The second value that it carries, else 0.
+    pub second: u64,
+}

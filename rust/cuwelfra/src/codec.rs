@@ -1,0 +1,162 @@
+//! Varints, readers, writers and envelopes.
+
+use cuwelfra_sys as sys;
+
+use crate::{ActorId, Refusal};
+
+/// How many bytes the shortest varint of `v` has.
+pub fn varint_len(v: u64) -> usize {
+    sys::varint_len(v)
+}
+
+/// Reads from a slice. A refused read leaves the position.
+#[derive(Clone, Copy, Debug)]
+pub struct Reader<'a> {
+    bytes: &'a [u8],
+    at: usize,
+}
+
+impl<'a> Reader<'a> {
+    /// A reader at the start of `bytes`.
+    pub fn new(bytes: &'a [u8]) -> Self {
+        Self { bytes, at: 0 }
+    }
+
+    /// Where the next read starts.
+    pub fn position(&self) -> usize {
+        self.at
+    }
+
+    /// How many bytes are left.
+    pub fn remaining(&self) -> usize {
+        self.bytes.len() - self.at
+    }
+
+    /// Reads one byte; 22.
+    pub fn u8(&mut self) -> Result<u8, Refusal> {
+        let read = sys::get_u8(self.bytes, self.at);
+        self.number(read).map(|value| value as u8)
+    }
+
+    /// Reads a varint; 22, 23.
+    pub fn varint(&mut self) -> Result<u64, Refusal> {
+        let read = sys::get_varint(self.bytes, self.at);
+        self.number(read)
+    }
+
+    /// Reads a varint of at most 32 bits; 22, 23.
+    pub fn u32(&mut self) -> Result<u32, Refusal> {
+        let read = sys::get_u32(self.bytes, self.at);
+        self.number(read).map(|value| value as u32)
+    }
+
+    /// Reads a count of at most `max` and at most the bytes left after it; 22 to 24.
+    pub fn count(&mut self, max: u64) -> Result<usize, Refusal> {
+        let read = sys::get_count(self.bytes, self.at, max);
+        self.number(read).map(|value| value as usize)
+    }
+
+    /// Reads bytes, length first, at most `max`; 22 to 24.
+    pub fn bytes(&mut self, max: u64) -> Result<&'a [u8], Refusal> {
+        let read = sys::get_bytes(self.bytes, self.at, max);
+        Refusal::check(read.told)?;
+        self.at = read.next as usize;
+        Ok(part(self.bytes, read.start, read.len))
+    }
+
+    /// Nothing may be left; 25.
+    pub fn finish(&self) -> Result<(), Refusal> {
+        Refusal::check(sys::finish(self.bytes, self.at))
+    }
+
+    fn number(&mut self, read: sys::NumberRead) -> Result<u64, Refusal> {
+        Refusal::check(read.told)?;
+        self.at = read.next as usize;
+        Ok(read.value)
+    }
+}
+
+/// Writes into a lent slice. A refused write leaves slice and position.
+#[derive(Debug)]
+pub struct Writer<'a> {
+    out: &'a mut [u8],
+    at: usize,
+}
+
+impl<'a> Writer<'a> {
+    /// A writer at the start of `out`.
+    pub fn new(out: &'a mut [u8]) -> Self {
+        Self { out, at: 0 }
+    }
+
+    /// How many bytes were written.
+    pub fn position(&self) -> usize {
+        self.at
+    }
+
+    /// Writes one byte; 2.
+    pub fn u8(&mut self, value: u8) -> Result<(), Refusal> {
+        let written = sys::put_u8(self.out, self.at, value);
+        self.moved(written)
+    }
+
+    /// Writes the shortest varint; 2.
+    pub fn varint(&mut self, value: u64) -> Result<(), Refusal> {
+        let written = sys::put_varint(self.out, self.at, value);
+        self.moved(written)
+    }
+
+    /// Writes bytes, length first; 2.
+    pub fn bytes(&mut self, bytes: &[u8]) -> Result<(), Refusal> {
+        let written = sys::put_bytes(self.out, self.at, bytes);
+        self.moved(written)
+    }
+
+    fn moved(&mut self, written: sys::Written) -> Result<(), Refusal> {
+        self.at = next(written)?;
+        Ok(())
+    }
+}
+
+/// A message body with its sender and a signature over the body.
+#[derive(Clone, Copy, Debug, PartialEq, Eq)]
+pub struct Envelope<'a> {
+    /// Who sent the body.
+    pub sender: ActorId,
+    /// The body.
+    pub body: &'a [u8],
+    /// The signature over the body.
+    pub sig: &'a [u8],
+}
+
+impl<'a> Envelope<'a> {
+    /// Writes the envelope at the start of `out` and gives its length; 2.
+    pub fn encode(&self, out: &mut [u8]) -> Result<usize, Refusal> {
+        next(sys::encode_envelope(
+            out,
+            self.sender.0,
+            self.body,
+            self.sig,
+        ))
+    }
+
+    /// Reads the envelope that fills all of `frame`; 22 to 25. Body and signature are parts of it.
+    pub fn decode(frame: &'a [u8]) -> Result<Self, Refusal> {
+        let read = sys::decode_envelope(frame);
+        Refusal::check(read.told)?;
+        Ok(Self {
+            sender: ActorId(read.sender),
+            body: part(frame, read.body_at, read.body_len),
+            sig: part(frame, read.sig_at, read.sig_len),
+        })
+    }
+}
+
+fn next(written: sys::Written) -> Result<usize, Refusal> {
+    Refusal::check(written.told)?;
+    Ok(written.next as usize)
+}
+
+fn part(bytes: &[u8], start: u64, len: u64) -> &[u8] {
+    &bytes[start as usize..][..len as usize]
+}

@@ -1,0 +1,75 @@
+//! Runs the port against the Rust original: `differential [SUITE...]`, all suites without a name.
+
+#![deny(warnings)]
+// Without the original some shared functions have no caller.
+#![cfg_attr(not(oracle_present), allow(dead_code))]
+#![forbid(unsafe_code)]
+
+mod area;
+#[cfg(oracle_present)]
+mod original;
+mod rng;
+mod suites;
+mod support;
+
+use std::process::ExitCode;
+
+use rng::Rng;
+use suites::{Suite, SUITES};
+
+fn main() -> ExitCode {
+    let names: Vec<String> = std::env::args().skip(1).collect();
+    if let Some(unknown) = names.iter().find(|name| find(name).is_none()) {
+        eprintln!("no suite {unknown}; there are: {}", all_names());
+        return ExitCode::from(2);
+    }
+    if !oracle::PRESENT {
+        println!(
+            "The Rust original is absent: neither TPT_REPLICATE_SRC nor ../shared/docs/src beside \
+             the repository has it. Suites that need it are skipped."
+        );
+    }
+    let seed = rng::seed();
+    let mut passed = 0;
+    for suite in SUITES.iter().filter(|suite| chosen(suite, &names)) {
+        match run(suite, seed) {
+            Some(true) => passed += 1,
+            Some(false) => return ExitCode::FAILURE,
+            None => {}
+        }
+    }
+    println!("differential: {passed} suites passed");
+    ExitCode::SUCCESS
+}
+
+/// Whether a suite passed, `None` where it is skipped.
+fn run(suite: &Suite, seed: u64) -> Option<bool> {
+    let name = suite.name;
+    let Some(body) = suite.run else {
+        println!("{name}: skipped, it needs the Rust original");
+        return None;
+    };
+    match body(&mut Rng::for_suite(seed, name)) {
+        Ok(cases) => {
+            println!("{name}: {cases} cases, ok");
+            Some(true)
+        }
+        Err(difference) => {
+            println!("{name}: DISAGREES (seed {seed})\n{difference}");
+            Some(false)
+        }
+    }
+}
+
+fn chosen(suite: &Suite, names: &[String]) -> bool {
+    names.is_empty() || names.iter().any(|name| name == suite.name)
+}
+
+fn find(name: &str) -> Option<&'static Suite> {
+    SUITES.iter().find(|suite| suite.name == name)
+}
+
+fn all_names() -> String {
+    let names: Vec<&str> = SUITES.iter().map(|suite| suite.name).collect();
+    names.join(", ")
+}

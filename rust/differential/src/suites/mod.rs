@@ -1,0 +1,77 @@
+//! The suites, in the order in which they run.
+
+use crate::rng::Rng;
+use crate::support::Outcome;
+
+#[cfg(oracle_present)]
+mod envelope;
+#[cfg(oracle_present)]
+mod hybrid;
+#[cfg(oracle_present)]
+mod readers;
+mod refusals;
+#[cfg(oracle_present)]
+mod timestamp;
+#[cfg(oracle_present)]
+mod varint_long;
+#[cfg(oracle_present)]
+mod varint_short;
+#[cfg(oracle_present)]
+mod varint_write;
+#[cfg(oracle_present)]
+mod vector;
+mod vector_areas;
+#[cfg(oracle_present)]
+mod writers;
+
+type Run = fn(&mut Rng) -> Outcome;
+
+pub struct Suite {
+    pub name: &'static str,
+    /// `None` where the suite needs the Rust original and it is absent.
+    pub run: Option<Run>,
+}
+
+/// A suite that needs the Rust original.
+#[cfg(oracle_present)]
+macro_rules! beside_original {
+    ($name:literal, $run:path) => {
+        Suite {
+            name: $name,
+            run: Some($run),
+        }
+    };
+}
+#[cfg(not(oracle_present))]
+macro_rules! beside_original {
+    ($name:literal, $run:path) => {
+        Suite {
+            name: $name,
+            run: None,
+        }
+    };
+}
+
+/// A suite that needs the port alone.
+macro_rules! alone {
+    ($name:literal, $run:path) => {
+        Suite {
+            name: $name,
+            run: Some($run),
+        }
+    };
+}
+
+pub const SUITES: &[Suite] = &[
+    alone!("refusals", refusals::run),
+    beside_original!("varint-short", varint_short::run),
+    beside_original!("varint-long", varint_long::run),
+    beside_original!("varint-write", varint_write::run),
+    beside_original!("writers", writers::run),
+    beside_original!("readers", readers::run),
+    beside_original!("envelope", envelope::run),
+    beside_original!("timestamp", timestamp::run),
+    beside_original!("hybrid", hybrid::run),
+    beside_original!("vector", vector::run),
+    alone!("vector-areas", vector_areas::run),
+];
