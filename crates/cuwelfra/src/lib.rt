@@ -1,0 +1,3 @@
+// The static library: every public call as a C function over numbers and byte slices. A slice is a pointer and a length.
+pub mod bytes; // varints, readers, writers, envelopes
+pub mod hybrid; // stamps and hybrid clocks
