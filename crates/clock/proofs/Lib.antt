@@ -1,2 +1,11 @@
 pub mod Lex
 pub mod HybridLaws
+pub mod Rising
+pub mod Getting
+pub mod Clocks
+pub mod Placing
+pub mod Sounding
+pub mod Stored
+pub mod Growing
+pub mod Causal
+pub mod Calls

@@ -3,3 +3,9 @@ pub mod Hlc
 pub mod Hybrid
 pub mod Examples
 pub mod Monotone
+pub mod Entries
+pub mod FidgeMattern
+pub mod Vector
+pub mod Area
+pub mod Rows
+pub mod VectorExamples

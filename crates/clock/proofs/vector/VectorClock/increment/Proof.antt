@@ -1,0 +1,56 @@
+use mathlib.Core.Path.{sym, _∙_, ap}
+use borrow.Author.Tests.{not-true, not-false}
+use Prim.Native.Nat.{_+_}
+use Rattle.clock.specs.Entries.{put}
+use Rattle.clock.specs.Vector.{incrementCall, entries, changedOf, outcomeOf}
+use Rattle.clock.proofs.Growing.{grown-number, grown-stop}
+use Rattle.clock.proofs.Calls.{increment-spent, increment-told}
+use borrow.Author.Needs.{needs}
+use Rattle.clock.proofs.vector.VectorClock.increment.Statement.{statement}
+use Rattle.clock.proofs.vector.VectorClock.increment.Tie as tie
+
+is-sound-requires : tie.Need-is-sound-requires
+is-sound-requires c κs = search needs
+
+returns : tie.Need-returns
+unfolding incrementCall
+returns c = rw (sym (c .before .is-sound .ensures) ∙ not-true _ (c .if1 .taken))
+
+get-requires : tie.Need-get-requires
+get-requires c κs = (sym (c .before .is-sound .ensures) ∙ not-false _ (c .if1 .left))
+
+returns-2 : tie.Need-returns-2
+returns-2 c = increment-spent (c .before .before .before .before .args .self) (c .before .before .before .before .args .actor .0) _ (sym (c .before .before .before .is-sound .ensures) ∙ not-false _ (c .before .before .if1 .left)) (c .before .get .ensures) (c .if2 .taken)
+
+add-n : tie.Need-add-n
+add-n c = search needs
+
+entered-requires : tie.Need-entered-requires
+entered-requires c κs = (sym (c .before .before .before .is-sound .ensures) ∙ not-false _ (c .before .before .if1 .left))
+
+enum-told : tie.Need-enum-told
+enum-told c = search needs
+
+enum-known-told : tie.Need-enum-known-told
+enum-known-told c = search needs
+
+returns-3 : tie.Need-returns-3
+returns-3 c = increment-told (c .before .before .before .before .before .before .before .before .args .self) (c .before .before .before .before .before .before .before .before .args .actor .0) _ (sym (c .before .before .before .before .before .before .before .is-sound .ensures) ∙ not-false _ (c .before .before .before .before .before .before .if1 .left)) (c .before .before .before .before .before .get .ensures) (c .before .before .before .before .if2 .left) _ (grown-number (c .before .before .before .before .before .before .before .before .args .self) (put (entries (c .before .before .before .before .before .before .before .before .args .self)) (c .before .before .before .before .before .before .before .before .args .actor .0) (c .before .before .before .before .before .get .result + 1)) (changedOf (c .before .before .before .entered .result)) (c .before .before .before .entered .ensures) (c .before .before .before .before .before .get .result + 1) (ap outcomeOf (c .enum-told .given .1)))
+
+returns-4 : tie.Need-returns-4
+returns-4 c = increment-told (c .before .before .before .before .before .before .before .before .before .args .self) (c .before .before .before .before .before .before .before .before .before .args .actor .0) _ (sym (c .before .before .before .before .before .before .before .before .is-sound .ensures) ∙ not-false _ (c .before .before .before .before .before .before .before .if1 .left)) (c .before .before .before .before .before .before .get .ensures) (c .before .before .before .before .before .if2 .left) _ (grown-stop (c .before .before .before .before .before .before .before .before .before .args .self) (put (entries (c .before .before .before .before .before .before .before .before .before .args .self)) (c .before .before .before .before .before .before .before .before .before .args .actor .0) (c .before .before .before .before .before .before .get .result + 1)) (changedOf (c .before .before .before .before .entered .result)) (c .before .before .before .before .entered .ensures) (c .before .before .before .before .before .before .get .result + 1) _ (ap outcomeOf (c .before .told .given .1)))
+
+pub increment-spec : {M : Type 1} → statement M
+increment-spec =
+    tie.close
+    (tie.spec
+    is-sound-requires
+    returns
+    get-requires
+    returns-2
+    add-n
+    entered-requires
+    enum-told
+    enum-known-told
+    returns-3
+    returns-4)
