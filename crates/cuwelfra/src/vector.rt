@@ -1,0 +1,218 @@
+// Vector clocks in areas of 520 bytes: crate clock.
+use clock::vector::CausalOrder;
+use clock::vector::Changed;
+use clock::vector::CoverAnswer;
+use clock::vector::Incremented;
+use clock::vector::NumberAnswer;
+use clock::vector::OrderAnswer;
+use clock::vector::Outcome;
+use clock::vector::VectorClock;
+use error::Refusal;
+use error::Told;
+use stubs::ActorId;
+ghost use mathlib.Core.Path.{_≡_};
+ghost use Prim.Native.Nat.{_≤_};
+ghost use lib.ListN.{length};
+ghost use Rattle.error.specs.Answer.{done, toldBy};
+ghost use Rattle.clock.specs.Vector.{numberOf, outcomeOf, coverOf, orderAnswer, changedOf, incrementedOf};
+ghost use Rattle.cuwelfra.specs.Vectors.{onArea, newArea, observeArea, incrementArea, mergeArea, getArea, dominatesArea, compareArea, clockTold, coverTold, orderTold, Keeps, KeepsNumber};
+ghost use mathlib.Core.Bool.{true};
+
+#[repr(C)]
+pub struct ClockTold {
+    pub told: Told,
+    pub number: u64,
+}
+
+fn clock_told(r: NumberAnswer) -> ClockTold
+    ensures { λ t. ⌜ t ≡ clockTold (numberOf r) ⌝ }
+{
+    match r {
+        NumberAnswer::Number(number) => ClockTold {
+            told: crate::bytes::accept(),
+            number,
+        },
+        NumberAnswer::Refused(refusal) => ClockTold {
+            told: error::tell(refusal),
+            number: 0,
+        },
+    }
+}
+
+fn cover_told(r: CoverAnswer) -> ClockTold
+    ensures { λ t. ⌜ t ≡ coverTold (coverOf r) ⌝ }
+{
+    match r {
+        CoverAnswer::Covers => ClockTold {
+            told: crate::bytes::accept(),
+            number: 1,
+        },
+        CoverAnswer::Lacks => ClockTold {
+            told: crate::bytes::accept(),
+            number: 0,
+        },
+        CoverAnswer::Refused(refusal) => ClockTold {
+            told: error::tell(refusal),
+            number: 0,
+        },
+    }
+}
+
+fn causal_told(o: CausalOrder) -> ClockTold
+    ensures { λ t. ⌜ t ≡ orderTold (done o) ⌝ }
+{
+    match o {
+        CausalOrder::Before => ClockTold {
+            told: crate::bytes::accept(),
+            number: 0,
+        },
+        CausalOrder::After => ClockTold {
+            told: crate::bytes::accept(),
+            number: 1,
+        },
+        CausalOrder::Equal => ClockTold {
+            told: crate::bytes::accept(),
+            number: 2,
+        },
+        CausalOrder::Concurrent => ClockTold {
+            told: crate::bytes::accept(),
+            number: 3,
+        },
+    }
+}
+
+fn order_told(r: OrderAnswer) -> ClockTold
+    ensures { λ t. ⌜ t ≡ orderTold (orderAnswer r) ⌝ }
+{
+    match r {
+        OrderAnswer::Order(o) => causal_told(o),
+        OrderAnswer::Refused(refusal) => ClockTold {
+            told: error::tell(refusal),
+            number: 0,
+        },
+    }
+}
+
+// Writes the changed clock back; a refused one is left.
+fn keep(area: &mut [u8], r: Changed) -> Told
+    requires { ⌜ 520 ≤ length (now area) ⌝ }
+    ensures { λ t. ⌜ Keeps (onArea true (now (area .entry)) (changedOf r)) t (now (area .exit)) ⌝ }
+{
+    let outcome = r.outcome;
+    match outcome {
+        Outcome::Done => {
+            let clock = r.clock;
+            clock::raw::store_clock(area, 0, clock);
+            crate::bytes::accept()
+        }
+        Outcome::Refused(refusal) => error::tell(refusal),
+    }
+}
+
+fn keep_number(area: &mut [u8], r: Incremented) -> ClockTold
+    requires { ⌜ 520 ≤ length (now area) ⌝ }
+    ensures { λ t. ⌜ KeepsNumber (onArea true (now (area .entry)) (incrementedOf r)) t (now (area .exit)) ⌝ }
+{
+    let answer = r.answer;
+    match answer {
+        NumberAnswer::Number(number) => {
+            let clock = r.clock;
+            clock::raw::store_clock(area, 0, clock);
+            ClockTold {
+                told: crate::bytes::accept(),
+                number,
+            }
+        }
+        NumberAnswer::Refused(refusal) => ClockTold {
+            told: error::tell(refusal),
+            number: 0,
+        },
+    }
+}
+
+// Makes the area the clock with no entry.
+#[no_mangle]
+pub extern "C" fn cuwelfra_clock_new(clock: &mut [u8]) -> Told
+    ensures { λ r. ⌜ Keeps (newArea (now (clock .entry))) r (now (clock .exit)) ⌝ }
+{
+    if clock.len() < 520 {
+        return error::tell(Refusal::ShortArea);
+    }
+    clock::raw::store_clock(clock, 0, VectorClock::new());
+    crate::bytes::accept()
+}
+
+#[no_mangle]
+pub extern "C" fn cuwelfra_clock_get(clock: &[u8], actor: u64) -> ClockTold
+    ensures { λ r. ⌜ r ≡ clockTold (getArea (now (clock .entry)) actor) ⌝ }
+{
+    if clock.len() < 520 {
+        return clock_told(NumberAnswer::Refused(Refusal::ShortArea));
+    }
+    clock_told(clock::raw::load_clock(clock, 0).get(ActorId(actor)))
+}
+
+#[no_mangle]
+pub extern "C" fn cuwelfra_clock_observe(clock: &mut [u8], actor: u64, seq: u64) -> Told
+    ensures { λ r. ⌜ Keeps (observeArea (now (clock .entry)) actor seq) r (now (clock .exit)) ⌝ }
+{
+    if clock.len() < 520 {
+        return error::tell(Refusal::ShortArea);
+    }
+    let changed = clock::raw::load_clock(clock, 0).observe(ActorId(actor), seq);
+    keep(clock, changed)
+}
+
+#[no_mangle]
+pub extern "C" fn cuwelfra_clock_increment(clock: &mut [u8], actor: u64) -> ClockTold
+    ensures { λ r. ⌜ KeepsNumber (incrementArea (now (clock .entry)) actor) r (now (clock .exit)) ⌝ }
+{
+    if clock.len() < 520 {
+        return clock_told(NumberAnswer::Refused(Refusal::ShortArea));
+    }
+    let changed = clock::raw::load_clock(clock, 0).increment(ActorId(actor));
+    keep_number(clock, changed)
+}
+
+#[no_mangle]
+pub extern "C" fn cuwelfra_clock_merge(clock: &mut [u8], other: &[u8]) -> Told
+    ensures { λ r. ⌜ Keeps (mergeArea (now (clock .entry)) (now (other .entry))) r (now (clock .exit)) ⌝ }
+{
+    if clock.len() < 520 {
+        return error::tell(Refusal::ShortArea);
+    }
+    if other.len() < 520 {
+        return error::tell(Refusal::ShortArea);
+    }
+    let theirs = clock::raw::load_clock(other, 0);
+    let changed = clock::raw::load_clock(clock, 0).merge(theirs);
+    keep(clock, changed)
+}
+
+#[no_mangle]
+pub extern "C" fn cuwelfra_clock_dominates(clock: &[u8], other: &[u8]) -> ClockTold
+    ensures { λ r. ⌜ r ≡ coverTold (dominatesArea (now (clock .entry)) (now (other .entry))) ⌝ }
+{
+    if clock.len() < 520 {
+        return cover_told(CoverAnswer::Refused(Refusal::ShortArea));
+    }
+    if other.len() < 520 {
+        return cover_told(CoverAnswer::Refused(Refusal::ShortArea));
+    }
+    let theirs = clock::raw::load_clock(other, 0);
+    cover_told(clock::raw::load_clock(clock, 0).dominates(theirs))
+}
+
+#[no_mangle]
+pub extern "C" fn cuwelfra_clock_compare(clock: &[u8], other: &[u8]) -> ClockTold
+    ensures { λ r. ⌜ r ≡ orderTold (compareArea (now (clock .entry)) (now (other .entry))) ⌝ }
+{
+    if clock.len() < 520 {
+        return order_told(OrderAnswer::Refused(Refusal::ShortArea));
+    }
+    if other.len() < 520 {
+        return order_told(OrderAnswer::Refused(Refusal::ShortArea));
+    }
+    let theirs = clock::raw::load_clock(other, 0);
+    order_told(clock::raw::load_clock(clock, 0).compare(theirs))
+}
