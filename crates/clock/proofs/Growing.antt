@@ -23,7 +23,7 @@ use Rattle.clock.specs.Rows.{search, putIn}
 use Rattle.clock.proofs.Rising.{rises-of, rising-observe}
 use Rattle.clock.proofs.Getting.{merge-longer}
 use Rattle.clock.proofs.Clocks.{length-authors, length-numbers, entries-of, sound-of, sound-few, sound-rising, used-authors, used-numbers, count-is, authors-are, numbers-are, clock-is, entry-next}
-use Rattle.clock.proofs.Placing.{Found, at-here, at-gap, found-is, ins, put-pad, set-pad}
+use Rattle.clock.proofs.Placing.{Found, at-here, at-gap, found-is, ins, in-pad, set-pad}
 
 -- entries that are at most 32, or more
 module _ {A : Type 0} (c : VectorClock) (es : List (ℕ × ℕ)) (a : A) where
@@ -124,10 +124,10 @@ module _ (c : VectorClock) (s : sound c ≡ true) (la : length (c .authors) ≡ 
       sym (length-authors (put (entries c) a n)) ∙ ap length p ∙ length-ins i a (authorsOf (entries c)) (omega arith) ∙ ap suc (length-authors (entries c)) in
       let fa : ks ≡ pad 32 (authorsOf (put (entries c) a n)) =
       ek ∙ ap (λ (l : List ℕ). putIn l (c .count) i a) (authors-are c s la ln)
-      ∙ put-pad (authorsOf (entries c)) (c .count) i a lk (omega arith) (omega arith) ∙ ap (pad 32) (sym p) in
+      ∙ in-pad (authorsOf (entries c)) (c .count) i a lk (omega arith) (omega arith) ∙ ap (pad 32) (sym p) in
       let fn : ns ≡ pad 32 (numbersOf (put (entries c) a n)) =
       en ∙ ap (λ (l : List ℕ). putIn l (c .count) i n) (numbers-are c s la ln)
-      ∙ put-pad (numbersOf (entries c)) (c .count) i n lm (omega arith) (omega arith) ∙ ap (pad 32) (sym q) in
+      ∙ in-pad (numbersOf (entries c)) (c .count) i n lm (omega arith) (omega arith) ∙ ap (pad 32) (sym q) in
       let fc : c .count + 1 ≡ length (put (entries c) a n) = omega arith in
       (λ j. record { answer = done unit; clock = record { authors = fa j; numbers = fn j; count = fc j } })
       ∙ grown-yes c (put (entries c) a n) unit (omega arith)

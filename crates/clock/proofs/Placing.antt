@@ -124,9 +124,9 @@ in-last s t n i j v e f h l =
     )
 
 -- a padded row
-pub put-pad : (l : List ℕ) (n i v : ℕ) → length l ≡ n → n < 32 → i ≤ n → putIn (pad 32 l) n i v ≡ pad 32 (ins i v l)
+pub in-pad : (l : List ℕ) (n i v : ℕ) → length l ≡ n → n < 32 → i ≤ n → putIn (pad 32 l) n i v ≡ pad 32 (ins i v l)
 unfolding putIn pad ins
-put-pad l n i v e h k =
+in-pad l n i v e h k =
     let li : length (drop i l) ≡ n - i = length-drop i l ∙ ap (λ (m : ℕ). m - i) e in
     let f : 32 - length l ≡ suc (31 - n) = omega arith in
     let j : n + 1 ≡ length l + 1 = omega arith in

@@ -22,6 +22,7 @@ enum Place {
     Gap(usize),
 }
 
+// The place of an author among the first n.
 fn find(authors: &[u64], n: usize, a: u64) -> Place
     requires { ⌜ n ≤ length (now authors) ⌝ }
     ensures { λ r. ⌜ r ≡ search (take n (now (authors .entry))) a ⌝ }

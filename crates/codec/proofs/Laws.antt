@@ -1,25 +1,24 @@
 -- What the calls of this crate promise together: what is written is read, nothing shorter would do, and when a varint is refused.
 -- Assumes nothing.
-use Prim.Native.Nat.{ℕ, zero, suc, _+_, _-_, _*_, _%_, _/_, _^_, _≤_, _<_}
+use Prim.Native.Nat.{ℕ, suc, _+_, _-_, _*_, _%_, _^_, _≤_, _<_}
 use mathlib.Core.Path.{_≡_, refl, sym, _∙_, ap}
 use mathlib.Core.Bool.{Bool, true, false, _&&_}
 use mathlib.Core.List.{List, [], _∷_, _++_, append-assoc, append-nil}
 use mathlib.Core.Logic.{_⊎_, inl, inr, _↔_}
 use native.Mathlib.Omega.{arith}
 use lib.Dec.{ltb, leb}
-use lib.ListN.{length, take, drop, getD, length-append, length-drop, drop-of-length-le}
-use lib.Seq.{drop-drop, drop-append-seam, take-append-le, take-at, getD-drop}
+use lib.ListN.{length, drop, getD, length-append, length-drop}
+use lib.Seq.{drop-drop, drop-append-seam, take-at, getD-drop}
 use borrow.Author.Tests.{lt-ltb, le-ltb, le-leb, lt-leb, leb-true}
 use Rattle.words.specs.Choice.{pick}
 use Rattle.words.proofs.Words.{lt-or-le}
-use Rattle.error.specs.declared.Refusal.{Refusal}
 use Rattle.error.specs.declared.Refusal.the-variants.{Truncated, VarintOverflow, TooLarge}
-use Rattle.error.specs.Answer.{Got, got, bad, need, after, Answer, done}
-use Rattle.codec.specs.Leb128.{groups, ends, valueOf, shortest}
+use Rattle.error.specs.Answer.{Got, got, bad, need, done}
+use Rattle.codec.specs.Leb128.{groups, ends, valueOf, groupsBy, groupsOf, shortest}
 use Rattle.codec.specs.Reading.{getU8, judged, judge, getVarint, getU32, getCount, Part, partOf, getBytes, finish}
 use Rattle.codec.specs.Writing.{sized}
 use Rattle.codec.specs.Envelopes.{maxFrame, maxSignature, envelope, Envelope, readEnvelope}
-use Rattle.codec.proofs.Shortest.{short, long, induct, value-at, some, size-below, value-below}
+use Rattle.codec.proofs.Shortest.{short, long, induct, value-at, some, by-groups, size-below, value-below}
 use Rattle.codec.proofs.Steps.{on, shut, next, after-got, need-got, and-true}
 
 -- 1. The shortest sequence.
@@ -56,6 +55,7 @@ behind s at x q e = rw (← drop-drop (length x) at s, e) (drop-append-seam x q)
 pub left-behind : (s : List ℕ) (at : ℕ) (x q : List ℕ) → drop at s ≡ x ++ q → length s - (at + length x) ≡ length q
 left-behind s at x q e = sym (length-drop (at + length x) s) ∙ ap length (behind s at x q e)
 
+-- a number of 64 bits that stands at `at` in its shortest bytes is read
 pub varint-there : (s : List ℕ) (at v : ℕ) (q : List ℕ) → v < 2 ^ 64 → drop at s ≡ shortest v ++ q → getVarint s at ≡ got v (at + length (shortest v))
 unfolding getVarint judge judged
 varint-there s at v q h e =
@@ -66,6 +66,7 @@ pub varint-back : (p : List ℕ) (v : ℕ) (q : List ℕ) → v < 2 ^ 64
     → getVarint (p ++ (shortest v ++ q)) (length p) ≡ got v (length p + length (shortest v))
 varint-back p v q h = varint-there (p ++ (shortest v ++ q)) (length p) v q h (drop-append-seam p (shortest v ++ q))
 
+-- so is a byte
 pub u8-there : (s : List ℕ) (at b : ℕ) (q : List ℕ) → drop at s ≡ b ∷ q → getU8 s at ≡ got b (at + 1)
 unfolding getU8
 u8-there s at b q e =
@@ -74,10 +75,12 @@ u8-there s at b q e =
     let d : getD s at 0 ≡ b = ap (λ (n : ℕ). getD s n 0) (sym z) ∙ sym (getD-drop at s 0 0) ∙ ap (λ (t : List ℕ). getD t 0 0) e in
     rw (lt-ltb at (length s) (omega arith), d)
 
+-- so is a number of 32 bits
 pub u32-there : (s : List ℕ) (at v : ℕ) (q : List ℕ) → v < 2 ^ 32 → drop at s ≡ shortest v ++ q → getU32 s at ≡ got v (at + length (shortest v))
 unfolding getU32
 u32-there s at v q h e = rw (varint-there s at v q (omega arith) e, lt-ltb v (2 ^ 32) h)
 
+-- so is a count of at most max, where as many bytes follow
 pub count-there : (s : List ℕ) (at n max : ℕ) (q : List ℕ) → n < 2 ^ 64 → n ≤ max → n ≤ length q → drop at s ≡ shortest n ++ q
     → getCount s at max ≡ got n (at + length (shortest n))
 unfolding getCount
@@ -141,6 +144,7 @@ module _ (s : List ℕ) (at : ℕ) where
   abbrev pub bytes-at : List ℕ
   bytes-at = groups (drop at s)
 
+  -- the one case that holds
   pub varint-judged : Judged (ends bytes-at) (length bytes-at) (valueOf 0 bytes-at) (at + length bytes-at) (getVarint s at)
   unfolding getVarint judge
   varint-judged = judging (ends bytes-at) (length bytes-at) (valueOf 0 bytes-at) (at + length bytes-at)
@@ -289,3 +293,13 @@ module _ (sender : ℕ) (body sig : List ℕ) (h : sender < 2 ^ 64) (k : length 
   unfolding bytes read
   envelope-back =
       (read, all-read, refl, part-there bytes body-from body (sized sig) body-stands, part-there bytes sig-from sig [] sig-stands)
+
+-- Document 01's cases, by running the definitions: 300 is AC 02, 2^64 − 1 is nine FF then 01, 80 00 reads 0.
+pub record Varints : Type 0 where
+  pub three-hundred : shortest 300 ≡ 0xAC ∷ 0x02 ∷ []
+  pub largest : shortest 18446744073709551615 ≡ 0xFF ∷ 0xFF ∷ 0xFF ∷ 0xFF ∷ 0xFF ∷ 0xFF ∷ 0xFF ∷ 0xFF ∷ 0xFF ∷ 0x01 ∷ []
+  pub overlong : getVarint (0x80 ∷ 0x00 ∷ []) 0 ≡ got 0 2
+
+pub varints : Varints
+unfolding shortest groupsOf groupsBy getVarint judge judged groups ends valueOf
+varints = record { three-hundred = refl; largest = refl; overlong = refl }

@@ -3,3 +3,4 @@ pub mod Steps
 pub mod Reader
 pub mod Writer
 pub mod Laws
+pub mod Appended

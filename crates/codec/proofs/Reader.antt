@@ -1,8 +1,8 @@
 -- One turn of get_varint. Assumes nothing.
-use Prim.Native.Nat.{ℕ, zero, suc, _+_, _*_, _%_, _^_, _≤_, _<_}
+use Prim.Native.Nat.{ℕ, suc, _+_, _*_, _%_, _^_, _≤_, _<_}
 use mathlib.Core.Logic.{⊎-elim}
 use mathlib.Core.Bool.{Bool, true, false, _&&_}
-use mathlib.Core.Path.{_≡_, refl, _∙_, sym, ap}
+use mathlib.Core.Path.{_≡_, refl, _∙_, sym}
 use mathlib.Core.List.{List, [], _∷_}
 use native.Mathlib.Omega.{arith}
 use native.Mathlib.Numerals.{add-one}
@@ -10,13 +10,13 @@ use native.Mathlib.Nat.{pow-le-pow-right, mul-le-mul-right, eq-or-lt-of-le}
 use lib.ListN.{length, drop, getD, drop-of-length-le}
 use lib.Seq.{drop-cons}
 use lib.Pow.{pow-add}
-use lib.Dec.{ltb, leb}
+use lib.Dec.{ltb}
 use borrow.Author.Tests.{lt-ltb, le-ltb, le-leb, lt-leb}
 use Rattle.words.specs.Choice.{pick}
 use Rattle.codec.specs.Leb128.{groups, ends, valueOf}
 use Rattle.codec.specs.Reading.{judged, judge, getVarint}
 use Rattle.error.specs.declared.Refusal.the-variants.{Truncated, VarintOverflow}
-use Rattle.error.specs.Answer.{Got, got, bad, need}
+use Rattle.error.specs.Answer.{Got, got, bad}
 
 -- the answer where n bytes are read, with the value v, and the bytes g are next
 unfoldable pub onward : List ℕ → ℕ → ℕ → ℕ → ℕ → Got ℕ

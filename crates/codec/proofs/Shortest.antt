@@ -1,18 +1,18 @@
 -- Laws of the shortest sequence of a number. Assumes nothing.
-use Prim.Native.Nat.{ℕ, zero, suc, _+_, _-_, _*_, _/_, _%_, _^_, _≤_, _<_}
-use mathlib.Core.Path.{_≡_, refl, sym, _∙_, ap}
+use Prim.Native.Nat.{ℕ, zero, suc, _+_, _*_, _/_, _%_, _^_, _≤_, _<_}
+use mathlib.Core.Path.{_≡_, sym, _∙_, ap}
 use mathlib.Core.List.{List, [], _∷_}
-use mathlib.Core.Logic.{_⊎_, inl, inr}
+use mathlib.Core.Logic.{inl, inr}
 use native.Mathlib.Omega.{arith}
 use native.Mathlib.Nat.{add-mul, mul-assoc, mul-right-comm, mul-le-mul-right}
 use lib.ListN.{length}
 use lib.Pow.{pow-add, pow-pos}
 use borrow.Author.Tests.{lt-ltb, le-ltb}
 use Rattle.words.proofs.Words.{lt-or-le}
-use Rattle.codec.specs.Leb128.{valueOf, groupsOf, shortest}
+use Rattle.codec.specs.Leb128.{valueOf, groupsBy, groupsOf, shortest}
 
 low : (n v : ℕ) → v < 128 → groupsOf n v ≡ v ∷ []
-unfolding groupsOf
+unfolding groupsOf groupsBy
 low zero v h =
     let e : v % 128 ≡ v = omega arith in
     rw e
@@ -20,7 +20,7 @@ low (suc n) v h = rw (lt-ltb v 128 h)
 
 -- how many groups may follow does not matter, where v may
 fuel : (m n v : ℕ) → v ≤ m → v ≤ n → groupsOf m v ≡ groupsOf n v
-unfolding groupsOf
+unfolding groupsOf groupsBy
 fuel zero n v h k = low zero v (omega arith) ∙ sym (low n v (omega arith))
 fuel (suc m) zero v h k = low (suc m) v (omega arith) ∙ sym (low zero v (omega arith))
 fuel (suc m) (suc n) v h k =
@@ -36,7 +36,7 @@ short v h = low v v h
 
 -- another has its low seven bits, with the sign that more follow, and the groups of the rest
 pub long : (v : ℕ) → 128 ≤ v → shortest v ≡ (v % 128 + 128) ∷ shortest (v / 128)
-unfolding shortest groupsOf
+unfolding shortest groupsOf groupsBy
 long zero h = absurd (omega arith)
 long (suc n) h =
     rw (le-ltb (suc n) 128 h)
@@ -79,6 +79,16 @@ pub seven : (n : ℕ) → 2 ^ (7 * suc n) ≡ 2 ^ (7 * n) * 128
 seven n =
     let e : 7 * suc n ≡ 7 * n + 7 = omega arith in
     rw e (pow-add 2 (7 * n) 7)
+
+-- the groups of a number of at most 7 (n + 1) bits, n following the first: with n = 9 a number of 64 bits is computed
+pub by-groups : (n v : ℕ) → v < 2 ^ (7 * suc n) → shortest v ≡ groupsOf n v
+unfolding groupsOf groupsBy
+by-groups zero v h = short v (omega arith) ∙ sym (low zero v (omega arith))
+by-groups (suc n) v h =
+    elim (lt-or-le v 128) [
+      | inl l ↦ short v l ∙ sym (low (suc n) v l)
+      | inr l ↦ long v l ∙ rw (le-ltb v 128 l, by-groups n (v / 128) (omega (arith, seven (suc n))))
+    ]
 
 -- a number of at most 7 (n + 1) bits has at most n + 1 bytes
 pub size-below : (n v : ℕ) → v < 2 ^ (7 * suc n) → length (shortest v) ≤ suc n

@@ -5,7 +5,7 @@ use mathlib.Core.List.{List}
 use mathlib.Core.Path.{_≡_, refl, sym, _∙_, ap}
 use native.Mathlib.Omega.{arith}
 use Rattle.error.specs.declared.Refusal.{Refusal}
-use Rattle.error.specs.Answer.{Got, got, bad, after, need, Answer, done, refused, andThen, unless}
+use Rattle.error.specs.Answer.{Got, got, bad, after, need, Answer, done, refused, andThen}
 use Rattle.codec.specs.Reading.{getVarint, gotNumber, Part, gotPart, finishedAt}
 use Rattle.codec.specs.Envelopes.{closed, readEnvelope}
 use Rattle.codec.specs.Parts.{readParts}

@@ -21,10 +21,15 @@ unfoldable pub valueOf : ℕ → List ℕ → ℕ
 valueOf k [] = 0
 valueOf k (b ∷ bs) = b % 128 * 2 ^ k + valueOf (k + 7) bs
 
+-- one group of v, with the sign that more follow where they do
+unfoldable pub groupsBy : Bool → ℕ → (ℕ → List ℕ) → List ℕ
+groupsBy true v rest = v ∷ []
+groupsBy false v rest = (v % 128 + 128) ∷ rest (v / 128)
+
 -- the groups of v, where at most n follow the first
 unfoldable pub groupsOf : ℕ → ℕ → List ℕ
 groupsOf zero v = v % 128 ∷ []
-groupsOf (suc n) v = pick (ltb v 128) (v ∷ []) ((v % 128 + 128) ∷ groupsOf n (v / 128))
+groupsOf (suc n) v = groupsBy (ltb v 128) v (λ w. groupsOf n w)
 
 -- the shortest sequence of v: no group is left out, and no group above the highest bit is added. (v groups are always enough)
 unfoldable pub shortest : ℕ → List ℕ

@@ -3,7 +3,7 @@
 use crate::Written;
 use error::Refusal;
 ghost use mathlib.Core.Path.{_≡_};
-ghost use Prim.Native.Nat.{_+_, _*_, _/_, _%_, _^_, _≤_, _<_};
+ghost use Prim.Native.Nat.{_+_, _%_, _≤_};
 ghost use lib.ListN.{length};
 ghost use Rattle.codec.specs.Leb128.{shortest};
 ghost use Rattle.codec.specs.Writing.{writtenOf, sized};

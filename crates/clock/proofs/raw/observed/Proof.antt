@@ -1,3 +1,4 @@
+use native.Mathlib.Omega.{arith}
 use Prim.Native.Nat.{ℕ}
 use mathlib.Core.Path.{_≡_, sym, _∙_}
 use lib.ListN.{length, length-map}
@@ -20,10 +21,10 @@ entered-requires : tie.Need-entered-requires
 entered-requires c κs = search needs
 
 returns : tie.Need-returns
-returns c = observe-more (c .before .before .before .args .c) (c .before .before .before .args .actor .0) (c .before .before .before .args .seq) _ _ (c .before .before .get .ensures) (c .before .if1 .taken) (c .entered .ensures)
+returns c = observe-more (c .before .before .before .args .c) (c .before .before .before .args .actor .0) (c .before .before .before .args .seq) (c .before .before .get .result) _ (c .before .before .get .ensures) (omega arith) (c .entered .ensures)
 
 returns-2 : tie.Need-returns-2
-returns-2 c = observe-less (c .before .before .args .c) (c .before .before .pre) (authors32 (c .before .before)) (numbers32 (c .before .before)) (c .before .before .args .actor .0) (c .before .before .args .seq) _ (c .before .get .ensures) (c .if1 .left)
+returns-2 c = observe-less (c .before .before .args .c) (c .before .before .pre) (authors32 (c .before .before)) (numbers32 (c .before .before)) (c .before .before .args .actor .0) (c .before .before .args .seq) (c .before .get .result) (c .before .get .ensures) (omega arith)
 
 pub observed-spec : {M : Type 1} → statement M
 observed-spec = tie.close (tie.spec get-requires entered-requires returns returns-2)

@@ -30,7 +30,7 @@ shared-slice-read-b : tie.Need-shared-slice-read-b Inv-loop μ-loop
 shared-slice-read-b c = search needs
 
 returns : tie.Need-returns Inv-loop μ-loop
-returns c = rises-not (c .before .before .before .before .before .args .authors .now) (c .before .before .before .before .before .args .n) (c .before .before .before .before .loop .i) (search needs) (search needs) (c .before .before .before .before .loop .inv .1) (c .if1 .taken)
+returns c = rises-not (c .before .before .before .before .before .args .authors .now) (c .before .before .before .before .before .args .n) (c .before .before .before .before .loop .i) (search needs) (search needs) (c .before .before .before .before .loop .inv .1) (omega arith)
 
 add-i : tie.Need-add-i Inv-loop μ-loop
 add-i c = search needs
@@ -39,7 +39,7 @@ loop-less : tie.Need-loop-less Inv-loop μ-loop
 loop-less c = search needs
 
 loop-again : tie.Need-loop-again Inv-loop μ-loop
-loop-again c = (search needs, rises-turn (c .before .before .before .before .before .args .authors .now) (c .before .before .before .before .before .args .n) (c .before .before .before .before .loop .i) (search needs) (search needs) (c .before .before .before .before .loop .inv .1) (c .if1 .left))
+loop-again c = (search needs, rises-turn (c .before .before .before .before .before .args .authors .now) (c .before .before .before .before .before .args .n) (c .before .before .before .before .loop .i) (search needs) (search needs) (c .before .before .before .before .loop .inv .1) (omega arith))
 
 returns-2 : tie.Need-returns-2 Inv-loop μ-loop
 returns-2 c = rises-end (c .before .before .args .authors .now) (c .before .before .args .n) (c .before .loop .i) (omega arith) (c .before .loop .inv .1)

@@ -1,3 +1,4 @@
+use native.Mathlib.Omega.{arith}
 use mathlib.Core.Path.{sym, _∙_, ap}
 use borrow.Author.Tests.{not-true, not-false}
 use Prim.Native.Nat.{_+_}
@@ -20,7 +21,7 @@ get-requires : tie.Need-get-requires
 get-requires c κs = (sym (c .before .is-sound .ensures) ∙ not-false _ (c .if1 .left))
 
 returns-2 : tie.Need-returns-2
-returns-2 c = increment-spent (c .before .before .before .before .args .self) (c .before .before .before .before .args .actor .0) _ (sym (c .before .before .before .is-sound .ensures) ∙ not-false _ (c .before .before .if1 .left)) (c .before .get .ensures) (c .if2 .taken)
+returns-2 c = increment-spent (c .before .before .before .before .args .self) (c .before .before .before .before .args .actor .0) (c .before .get .result) (sym (c .before .before .before .is-sound .ensures) ∙ not-false _ (c .before .before .if1 .left)) (c .before .get .ensures) (omega arith)
 
 add-n : tie.Need-add-n
 add-n c = search needs
@@ -35,10 +36,10 @@ enum-known-told : tie.Need-enum-known-told
 enum-known-told c = search needs
 
 returns-3 : tie.Need-returns-3
-returns-3 c = increment-told (c .before .before .before .before .before .before .before .before .args .self) (c .before .before .before .before .before .before .before .before .args .actor .0) _ (sym (c .before .before .before .before .before .before .before .is-sound .ensures) ∙ not-false _ (c .before .before .before .before .before .before .if1 .left)) (c .before .before .before .before .before .get .ensures) (c .before .before .before .before .if2 .left) _ (grown-number (c .before .before .before .before .before .before .before .before .args .self) (put (entries (c .before .before .before .before .before .before .before .before .args .self)) (c .before .before .before .before .before .before .before .before .args .actor .0) (c .before .before .before .before .before .get .result + 1)) (changedOf (c .before .before .before .entered .result)) (c .before .before .before .entered .ensures) (c .before .before .before .before .before .get .result + 1) (ap outcomeOf (c .enum-told .given .1)))
+returns-3 c = increment-told (c .before .before .before .before .before .before .before .before .args .self) (c .before .before .before .before .before .before .before .before .args .actor .0) (c .before .before .before .before .before .get .result) (sym (c .before .before .before .before .before .before .before .is-sound .ensures) ∙ not-false _ (c .before .before .before .before .before .before .if1 .left)) (c .before .before .before .before .before .get .ensures) (omega arith) _ (grown-number (c .before .before .before .before .before .before .before .before .args .self) (put (entries (c .before .before .before .before .before .before .before .before .args .self)) (c .before .before .before .before .before .before .before .before .args .actor .0) (c .before .before .before .before .before .get .result + 1)) (changedOf (c .before .before .before .entered .result)) (c .before .before .before .entered .ensures) (c .before .before .before .before .before .get .result + 1) (ap outcomeOf (c .enum-told .given .1)))
 
 returns-4 : tie.Need-returns-4
-returns-4 c = increment-told (c .before .before .before .before .before .before .before .before .before .args .self) (c .before .before .before .before .before .before .before .before .before .args .actor .0) _ (sym (c .before .before .before .before .before .before .before .before .is-sound .ensures) ∙ not-false _ (c .before .before .before .before .before .before .before .if1 .left)) (c .before .before .before .before .before .before .get .ensures) (c .before .before .before .before .before .if2 .left) _ (grown-stop (c .before .before .before .before .before .before .before .before .before .args .self) (put (entries (c .before .before .before .before .before .before .before .before .before .args .self)) (c .before .before .before .before .before .before .before .before .before .args .actor .0) (c .before .before .before .before .before .before .get .result + 1)) (changedOf (c .before .before .before .before .entered .result)) (c .before .before .before .before .entered .ensures) (c .before .before .before .before .before .before .get .result + 1) _ (ap outcomeOf (c .before .told .given .1)))
+returns-4 c = increment-told (c .before .before .before .before .before .before .before .before .before .args .self) (c .before .before .before .before .before .before .before .before .before .args .actor .0) (c .before .before .before .before .before .before .get .result) (sym (c .before .before .before .before .before .before .before .before .is-sound .ensures) ∙ not-false _ (c .before .before .before .before .before .before .before .if1 .left)) (c .before .before .before .before .before .before .get .ensures) (omega arith) _ (grown-stop (c .before .before .before .before .before .before .before .before .before .args .self) (put (entries (c .before .before .before .before .before .before .before .before .before .args .self)) (c .before .before .before .before .before .before .before .before .before .args .actor .0) (c .before .before .before .before .before .before .get .result + 1)) (changedOf (c .before .before .before .before .entered .result)) (c .before .before .before .before .entered .ensures) (c .before .before .before .before .before .before .get .result + 1) _ (ap outcomeOf (c .before .told .given .1)))
 
 pub increment-spec : {M : Type 1} → statement M
 increment-spec =
