@@ -1,3 +1,5 @@
 pub mod Bytes
 pub mod Hybrids
 pub mod Vectors
+pub mod Stores
+pub mod Peers

@@ -94,7 +94,7 @@ fn part(r: PartRead) -> PartTold
     }
 }
 
-fn written(r: Written) -> WrittenTold
+pub(crate) fn written(r: Written) -> WrittenTold
     ensures { λ t. ⌜ t ≡ writtenTold (writtenOf r) ⌝ }
 {
     match r {

@@ -24,7 +24,7 @@ pub struct ClockTold {
     pub number: u64,
 }
 
-fn clock_told(r: NumberAnswer) -> ClockTold
+pub(crate) fn clock_told(r: NumberAnswer) -> ClockTold
     ensures { λ t. ⌜ t ≡ clockTold (numberOf r) ⌝ }
 {
     match r {
@@ -39,7 +39,7 @@ fn clock_told(r: NumberAnswer) -> ClockTold
     }
 }
 
-fn cover_told(r: CoverAnswer) -> ClockTold
+pub(crate) fn cover_told(r: CoverAnswer) -> ClockTold
     ensures { λ t. ⌜ t ≡ coverTold (coverOf r) ⌝ }
 {
     match r {

@@ -1,0 +1,91 @@
+use mathlib.Core.Path.{_≡_, _∙_, ap, sym, refl}
+use Rattle.cuwelfra.proofs.StoreLaws.{found-logged, found-held, found-absent, found-refused}
+use borrow.Author.Needs.{needs}
+use Rattle.cuwelfra.proofs.store.cuwelfra_lookup.Statement.{statement}
+use Rattle.cuwelfra.proofs.store.cuwelfra_lookup.Tie as tie
+use Rattle.cuwelfra.proofs.store.cuwelfra_lookup.Reads as reads
+use Rattle.cuwelfra.proofs.store.cuwelfra_lookup.Lts as lts
+use Rattle.cuwelfra.proofs.store.found.Reads as found-reads
+use Rattle.error.proofs.tell.Reads as tell-reads
+use Rattle.log.proofs.lookup.find.Reads as find-reads
+use Rattle.log.proofs.lookup.lookup.Reads as lookup-reads
+
+-- src/store.rt:217:9
+find-requires : tie.Need-find-requires
+find-requires c κs = search needs
+
+-- src/store.rt:219:23
+enum-known-place : tie.Need-enum-known-place
+enum-known-place c = search needs
+
+-- src/store.rt:220:17
+lookup-requires : tie.Need-lookup-requires
+lookup-requires c κs = search needs
+
+-- src/store.rt:221:13
+found-requires : tie.Need-found-requires
+found-requires c κs = search needs
+
+-- src/store.rt:223:21
+enum-known-place-2 : tie.Need-enum-known-place-2
+enum-known-place-2 c = search needs
+
+-- src/store.rt:224:17
+lookup-requires-2 : tie.Need-lookup-requires-2
+lookup-requires-2 c κs = search needs
+
+-- src/store.rt:225:13
+found-requires-2 : tie.Need-found-requires-2
+found-requires-2 c κs = search needs
+
+-- src/store.rt:227:26
+enum-told : tie.Need-enum-told
+enum-told c = search needs
+
+-- src/store.rt:227:26
+found-requires-3 : tie.Need-found-requires-3
+found-requires-3 c κs = search needs
+
+-- src/store.rt:228:24
+enum-known-place-3 : tie.Need-enum-known-place-3
+enum-known-place-3 c = search needs
+
+-- src/store.rt:229:19
+tell-requires : tie.Need-tell-requires
+tell-requires c κs = search needs
+
+-- src/store.rt:207:1
+returns : tie.Need-returns
+returns c = found-logged _ _ _ _ (c .before .before .before .before .before .find .ensures) _ _ _ (c .before .before .before .place .given .1) (c .before .lookup .ensures) refl (c .found .ensures)
+
+-- src/store.rt:207:1
+returns-2 : tie.Need-returns-2
+returns-2 c = found-held _ _ _ _ (c .before .before .before .before .before .find .ensures) _ _ _ (c .before .before .before .place2 .given .1) (c .before .lookup2 .ensures) refl (c .found2 .ensures)
+
+-- src/store.rt:207:1
+returns-3 : tie.Need-returns-3
+returns-3 c = found-absent _ _ _ _ (c .before .before .before .find .ensures) (c .before .enum-told .given .1) (c .found3 .ensures)
+
+-- src/store.rt:207:1
+returns-4 : tie.Need-returns-4
+returns-4 c = found-refused _ _ _ _ _ (c .before .before .before .before .find .ensures) (c .before .before .place3 .given .1) (c .tell .ensures)
+
+pub cuwelfra-lookup-spec : {M : Type 1} → statement M
+cuwelfra-lookup-spec =
+    tie.close
+    (tie.spec
+    find-requires
+    enum-known-place
+    lookup-requires
+    found-requires
+    enum-known-place-2
+    lookup-requires-2
+    found-requires-2
+    enum-told
+    found-requires-3
+    enum-known-place-3
+    tell-requires
+    returns
+    returns-2
+    returns-3
+    returns-4)

@@ -1,0 +1,59 @@
+// The cutoff, the delta and its chunks: crates gc and sync.
+use crate::store::StampTold;
+use crate::vector::ClockTold;
+ghost use mathlib.Core.Path.{_≡_};
+ghost use Rattle.log.specs.Areas.{areas};
+ghost use Rattle.gc.specs.Cutoff.{cutoffCall};
+ghost use Rattle.sync.specs.Delta.{deltaCall, chunkCall};
+ghost use Rattle.cuwelfra.specs.Stores.{stampTold, ListsTold};
+
+// The latest stamp that is safe to compact to, for a frontier in a clock area.
+#[no_mangle]
+pub extern "C" fn cuwelfra_cutoff(
+    rows: &[u8],
+    held: &[u8],
+    head: &[u8],
+    frontier: &[u8],
+) -> StampTold
+    ensures { λ r. ⌜ r ≡ stampTold (cutoffCall (areas (now (rows .entry)) (now (held .entry)) (now (head .entry))) (now (frontier .entry))) ⌝ }
+{
+    crate::store::stamp_told(gc::cutoff(rows, held, head, frontier))
+}
+
+// The log positions that a peer lacks.
+#[no_mangle]
+pub extern "C" fn cuwelfra_calculate_delta(
+    rows: &[u8],
+    held: &[u8],
+    head: &[u8],
+    peer: &[u8],
+    output: &mut [u8],
+) -> ClockTold
+    ensures { λ r. ⌜ ListsTold (deltaCall (areas (now (rows .entry)) (now (held .entry)) (now (head .entry))) (now (peer .entry)) (now (output .entry))) r (now (output .exit)) ⌝ }
+{
+    crate::vector::clock_told(sync::calculate_delta(rows, held, head, peer, output))
+}
+
+// The row counts of the chunks of that delta.
+#[no_mangle]
+pub extern "C" fn cuwelfra_chunk_ops(
+    rows: &[u8],
+    held: &[u8],
+    head: &[u8],
+    peer: &[u8],
+    max_per_chunk: u64,
+    max_bytes: u64,
+    output: &mut [u8],
+) -> ClockTold
+    ensures { λ r. ⌜ ListsTold (chunkCall (areas (now (rows .entry)) (now (held .entry)) (now (head .entry))) (now (peer .entry)) «max_per_chunk» «max_bytes» (now (output .entry))) r (now (output .exit)) ⌝ }
+{
+    crate::vector::clock_told(sync::chunk_ops(
+        rows,
+        held,
+        head,
+        peer,
+        max_per_chunk,
+        max_bytes,
+        output,
+    ))
+}

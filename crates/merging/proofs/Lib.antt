@@ -1,0 +1,15 @@
+pub mod Sorting
+pub mod Orders
+pub mod Clocks
+pub mod Listing
+pub mod Rows
+pub mod Draining
+pub mod Admitting
+pub mod Keeps
+pub mod Runs
+pub mod Following
+pub mod Ruling
+pub mod Contents
+pub mod Brought
+pub mod Bridge
+pub mod Convergence

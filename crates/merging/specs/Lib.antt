@@ -1,0 +1,9 @@
+pub mod Batch
+pub mod Merging
+pub mod Calls
+pub mod Offers
+pub mod Examples
+pub mod Group
+pub mod Steps
+pub mod Balance
+pub mod Leaving

@@ -1,0 +1,177 @@
+-- Document 01, "Call lists and fair offers (demand 3)": call lists, what they offer, when offers are fair, causal listings, and what demand 3 says. The
+-- theorem stands in Convergence. Assumes nothing.
+use Prim.Native.Nat.{ℕ, zero, suc, _+_, _≤_, _<_, _^_}
+use mathlib.Core.Path.{_≡_}
+use mathlib.Core.Logic.{_↔_}
+use mathlib.Core.Bool.{Bool, true, false}
+use mathlib.Core.List.{List, [], _∷_, _++_, List·Memᴰ, Sublistᴰ}
+use lib.Dec.{ltb, eqb}
+use Rattle.words.specs.Choice.{pick}
+use Rattle.words.specs.Be.{Bytes}
+use Rattle.stubs.specs.declared.ActorId.{ActorId}
+use Rattle.error.specs.Answer.{Answer, done, refused}
+use Rattle.clock.specs.declared.stamp.Timestamp.{Timestamp}
+use Rattle.clock.specs.Order.{stampLess}
+use Rattle.clock.specs.Entries.{get}
+use Rattle.row.specs.Rows.{Row, HeldRow, workLess}
+use Rattle.row.specs.Reading.{BatchRow}
+use Rattle.log.specs.Store.{Floor, Store, stampOk}
+use Rattle.log.specs.Areas.{Areas, rowsOf, readStore}
+use Rattle.merging.specs.Batch.{Limits, readBatch}
+use Rattle.merging.specs.Merging.{Report, countIf}
+use Rattle.merging.specs.Calls.{batchCall, setFloorCall}
+
+-- "A call list is any list of batch calls and floor settings on one store, refused ones included": settings, time, batch, scratch and output of a
+-- batch call, or the stamp of a floor setting
+pub data Call : Type 0 where
+  batch : Limits → ℕ → List ℕ → List ℕ → List ℕ → Call
+  floor : Timestamp → Call
+
+-- "batch, settings, time, floor and the other areas are any at all": a byte is below 256, the time and the numbers of a stamp fit their widths
+abbrev pub Given : Call → Type 0
+Given (batch l time b scratch output) = (time < 2 ^ 64) × Bytes b
+Given (floor t) = stampOk t ≡ true
+
+-- "Each call gets the store as the last one returned or left it": the very definitions that the exported calls' contracts cite
+unfoldable pub afterCall : Areas → Call → Areas
+afterCall a (batch l time b scratch output) = batchCall a l time b scratch output .areas
+afterCall a (floor t) = setFloorCall a t .areas
+
+unfoldable pub runCalls : Areas → List Call → Areas
+runCalls a [] = a
+runCalls a (c ∷ cs) = runCalls (afterCall a c) cs
+
+-- "It starts from an empty store: no row logged or held, no number in the clock, no watermark"; any floor
+pub record Empty (a : Areas) : Type 0 where
+  pub store : Store
+  pub holds : readStore a ≡ done store
+  pub log : store .log ≡ []
+  pub held : store .held ≡ []
+  pub clock : store .clock ≡ []
+  pub marks : store .marks ≡ []
+
+-- the bytes of the areas are bytes
+pub record Lent (a : Areas) : Type 0 where
+  pub log : Bytes (a .log)
+  pub held : Bytes (a .held)
+  pub head : Bytes (a .head)
+
+-- ---- offers
+
+unfoldable pub batchRows : List BatchRow → List Row
+batchRows [] = []
+batchRows (b ∷ bs) = b .row ∷ batchRows bs
+
+abbrev pub rowsRead : Answer (List BatchRow) → List Row
+rowsRead (done bs) = batchRows bs
+rowsRead (refused r) = []
+
+-- "A row is offered to a store when an accepted batch of its list holds it"
+abbrev pub whenAccepted : {A B : Type 0} → Answer A → List B → List B
+whenAccepted (done x) l = l
+whenAccepted (refused r) l = []
+
+unfoldable pub offeredBy : Areas → Call → List Row
+offeredBy a (batch l time b scratch output) = whenAccepted (batchCall a l time b scratch output .answer) (rowsRead (readBatch b))
+offeredBy a (floor t) = []
+
+unfoldable pub offered : Areas → List Call → List Row
+offered a [] = []
+offered a (c ∷ cs) = offeredBy a c ++ offered (afterCall a c) cs
+
+-- the time and the pending age of an accepted batch
+pub record Accepted : Type 0 where
+  pub time : ℕ
+  pub age : ℕ
+
+unfoldable pub acceptedBy : Areas → Call → List Accepted
+acceptedBy a (batch l time b scratch output) =
+    whenAccepted (batchCall a l time b scratch output .answer) (record { time = time; age = l .maxPendingAge } ∷ [])
+acceptedBy a (floor t) = []
+
+unfoldable pub accepted : Areas → List Call → List Accepted
+accepted a [] = []
+accepted a (c ∷ cs) = acceptedBy a c ++ accepted (afterCall a c) cs
+
+-- "the times of accepted batches span at most the least pending age among those batches"
+abbrev pub Spans : List Accepted → Type 0
+Spans bs = (x y z : Accepted) → List·Memᴰ x bs → List·Memᴰ y bs → List·Memᴰ z bs → x .time ≤ y .time + z .age
+
+-- "Offers are fair when no author and sequence is offered with two contents, in one store or across both"; rows with equal author, sequence and
+-- content are one row
+abbrev pub OneContent : List Row → Type 0
+OneContent rows = (r s : Row) → List·Memᴰ r rows → List·Memᴰ s rows → r .author ≡ s .author → r .seq ≡ s .seq → r ≡ s
+
+-- ---- causal listings
+
+-- how many rows of an author
+unfoldable pub count : ℕ → List Row → ℕ
+count a rows = countIf (λ r. eqb (r .author) a) rows
+
+-- "Causal listing: a list of rows offered to the store, not necessarily all, without repeats, each its author's next number from 1, each dependency at
+-- most the number of that author's rows before it". The rows `before` come first
+pub data ListedAfter (offers : List Row) : List Row → List Row → Type 0 where
+  none : {before : List Row} → ListedAfter offers before []
+  more : {before rows : List Row} {r : Row}
+      → List·Memᴰ r offers → (List·Memᴰ r before → ⊥) → r .seq ≡ suc (count (r .author) before)
+      → ((a n : ℕ) → List·Memᴰ (a, n) (r .deps) → n ≤ count a before)
+      → ListedAfter offers (before ++ (r ∷ [])) rows → ListedAfter offers before (r ∷ rows)
+
+abbrev pub CausalListing : List Row → List Row → Type 0
+CausalListing offers rows = ListedAfter offers [] rows
+
+-- some causal listing ends in r
+abbrev pub Caused : List Row → Row → Type 0
+Caused offers r = (before : List Row) × CausalListing offers (before ++ (r ∷ []))
+
+-- ---- what demand 3 says
+
+-- "rising stamp order", and "equal stamps of one author stand newest first"
+unfoldable pub logLess : Row → Row → Bool
+logLess r s = pick (stampLess (r .stamp) (s .stamp)) true (pick (stampLess (s .stamp) (r .stamp)) false (ltb (s .seq) (r .seq)))
+
+-- each row is below every later one, so that none stands twice
+pub data Sorted (lessThan : Row → Row → Bool) : List Row → Type 0 where
+  none : Sorted lessThan []
+  more : {r : Row} {rows : List Row} → ((s : Row) → List·Memᴰ s rows → lessThan r s ≡ true) → Sorted lessThan rows → Sorted lessThan (r ∷ rows)
+
+-- of one store: the log holds exactly the rows that a causal listing of the offered rows ends in, in one order, with the clock and the held rows that follow
+pub record Follows (offers : List Row) (s : Store) : Type 0 where
+  pub logged : (r : Row) → List·Memᴰ r (s .log) ↔ Caused offers r
+  pub log-order : Sorted logLess (s .log)
+  pub clock : (a : ℕ) → get (s .clock) a ≡ count a (s .log)
+  pub clock-entries : (a n : ℕ) → List·Memᴰ (a, n) (s .clock) → 0 < n
+  pub held : (r : Row) → List·Memᴰ r (rowsOf (s .held)) ↔ (List·Memᴰ r offers × (List·Memᴰ r (s .log) → ⊥))
+  pub held-order : Sorted workLess (rowsOf (s .held))
+
+-- every row of the one is a row of the other
+abbrev pub Within : List Row → List Row → Type 0
+Within few many = (r : Row) → List·Memᴰ r few → List·Memᴰ r many
+
+-- of two stores: more offers give more log, in the same relative order; equal offers give equal logs, clocks and held rows
+pub record Agree (offers₁ offers₂ : List Row) (s₁ s₂ : Store) : Type 0 where
+  pub more : Within offers₂ offers₁ → Sublistᴰ (s₂ .log) (s₁ .log)
+  pub same-log : Within offers₁ offers₂ → Within offers₂ offers₁ → s₁ .log ≡ s₂ .log
+  pub same-clock : Within offers₁ offers₂ → Within offers₂ offers₁ → s₁ .clock ≡ s₂ .clock
+  pub same-held : Within offers₁ offers₂ → Within offers₂ offers₁ → rowsOf (s₁ .held) ≡ rowsOf (s₂ .held)
+
+-- each call of the list is one that can be made
+abbrev pub AllGiven : List Call → Type 0
+AllGiven cs = (c : Call) → List·Memᴰ c cs → Given c
+
+-- demand 3: what holds of two lists of calls on two stores
+pub record Converges (a₁ a₂ : Areas) (cs₁ cs₂ : List Call) : Type 0 where
+  pub store₁ : Store
+  pub store₂ : Store
+  pub holds₁ : readStore (runCalls a₁ cs₁) ≡ done store₁
+  pub holds₂ : readStore (runCalls a₂ cs₂) ≡ done store₂
+  pub follows₁ : Follows (offered a₁ cs₁) store₁
+  pub follows₂ : Follows (offered a₂ cs₂) store₂
+  pub agree : Agree (offered a₁ cs₁) (offered a₂ cs₂) store₁ store₂
+
+-- the statement: two lists of calls from two empty stores, with fair offers, converge
+abbrev pub Demand3 : Type 0
+Demand3 =
+    (a₁ a₂ : Areas) (cs₁ cs₂ : List Call) → Lent a₁ → Lent a₂ → AllGiven cs₁ → AllGiven cs₂ → Empty a₁ → Empty a₂
+    → OneContent (offered a₁ cs₁ ++ offered a₂ cs₂) → Spans (accepted a₁ cs₁) → Spans (accepted a₂ cs₂)
+    → Converges a₁ a₂ cs₁ cs₂

@@ -1,0 +1,5 @@
+pub mod Pinging
+pub mod Taking
+pub mod Calling
+pub mod Stored
+pub mod Counting

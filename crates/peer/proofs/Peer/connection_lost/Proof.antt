@@ -1,0 +1,39 @@
+use mathlib.Core.Path.{sym, _∙_}
+use borrow.Author.Tests.{not-true, not-false}
+use Rattle.peer.proofs.Calling.{on-sound, unsound}
+use Rattle.peer.specs.Peers.{became}
+use Rattle.peer.specs.Peers.{lostCall}
+use borrow.Author.Needs.{needs}
+use Rattle.peer.proofs.Peer.connection_lost.Statement.{statement}
+use Rattle.peer.proofs.Peer.connection_lost.Tie as tie
+
+is-sound-requires : tie.Need-is-sound-requires
+is-sound-requires c κs = search needs
+
+refuse-requires : tie.Need-refuse-requires
+refuse-requires c κs = search needs
+
+returns : tie.Need-returns
+unfolding lostCall
+returns c = unsound (c .before .before .before .args .self) _ _ (sym (c .before .before .is-sound .ensures) ∙ not-true _ (c .before .if1 .taken)) (c .refuse .ensures)
+
+with-times-requires : tie.Need-with-times-requires
+with-times-requires c κs = search needs
+
+done-requires : tie.Need-done-requires
+done-requires c κs = search needs
+
+returns-2 : tie.Need-returns-2
+unfolding lostCall
+returns-2 c = on-sound (c .before .before .before .before .args .self) (sym (c .before .before .before .is-sound .ensures) ∙ not-false _ (c .before .before .if1 .left)) _ _ (c .done .ensures ∙ (λ i. became (c .before .with-times .ensures i)))
+
+pub connection-lost-spec : {M : Type 1} → statement M
+connection-lost-spec =
+    tie.close
+    (tie.spec
+    is-sound-requires
+    refuse-requires
+    returns
+    with-times-requires
+    done-requires
+    returns-2)

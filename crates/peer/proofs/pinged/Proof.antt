@@ -1,0 +1,20 @@
+use mathlib.Core.Path.{_∙_}
+use Rattle.peer.specs.Places.{havingPings}
+use borrow.Author.Needs.{needs}
+use Rattle.peer.proofs.pinged.Statement.{statement}
+use Rattle.peer.proofs.pinged.Tie as tie
+
+push-nonce-requires : tie.Need-push-nonce-requires
+push-nonce-requires c κs = search needs
+
+tidy-requires : tie.Need-tidy-requires
+tidy-requires c κs = search needs
+
+with-pings-requires : tie.Need-with-pings-requires
+with-pings-requires c κs = search needs
+
+returns : tie.Need-returns
+returns c = c .with-pings .ensures ∙ (λ i. havingPings (c .before .before .before .before .before .args .p) (c .before .before .before .before .before .args .now) (c .before .before .push-nonce .ensures i) (c .before .tidy .ensures i))
+
+pub pinged-spec : {M : Type 1} → statement M
+pinged-spec = tie.close (tie.spec push-nonce-requires tidy-requires with-pings-requires returns)

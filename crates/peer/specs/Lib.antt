@@ -1,0 +1,3 @@
+pub mod Peers
+pub mod Area
+pub mod Places

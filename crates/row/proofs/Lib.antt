@@ -1,0 +1,17 @@
+pub mod Truths
+pub mod Pairs
+pub mod Slot
+pub mod Tables
+pub mod SlotTable
+pub mod Ops
+pub mod Tests
+pub mod Lengths
+pub mod Good
+pub mod Back
+pub mod Inverse
+pub mod RowSteps
+pub mod DepsTurn
+pub mod RowWhole
+pub mod Lens
+pub mod Stores
+pub mod OpCalls

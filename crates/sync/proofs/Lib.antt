@@ -1,0 +1,4 @@
+pub mod Frame
+pub mod Listing
+pub mod Turns
+pub mod Theorems

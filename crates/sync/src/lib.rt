@@ -1,0 +1,59 @@
+// From src/sync.rs: what a peer is missing, and in which chunks it goes out.
+mod chunk; // the delta in chunks
+mod scan; // the rows that a peer has not seen
+
+use crate::chunk::at_least_one;
+use crate::chunk::write_chunks;
+use crate::scan::count_rows;
+use crate::scan::write_delta;
+use clock::raw::load_clock;
+use clock::vector::NumberAnswer;
+ghost use mathlib.Core.Path.{_≡_};
+ghost use Rattle.clock.specs.Vector.{numberOf};
+ghost use Rattle.log.specs.Areas.{areas};
+ghost use Rattle.sync.specs.Delta.{deltaCall, chunkCall, Lists};
+
+// The log positions of every row that a peer with this clock has not seen, eight big-endian bytes each.
+pub fn calculate_delta(
+    rows: &[u8],
+    held: &[u8],
+    head: &[u8],
+    peer: &[u8],
+    output: &mut [u8],
+) -> NumberAnswer
+    ensures { λ r. ⌜ Lists (deltaCall (areas (now (rows .entry)) (now (held .entry)) (now (head .entry))) (now (peer .entry)) (now (output .entry))) (numberOf r) (now (output .exit)) ⌝ }
+{
+    let told = count_rows(rows, held, head, peer, output.len());
+    match told {
+        NumberAnswer::Refused(r) => NumberAnswer::Refused(r),
+        NumberAnswer::Number(n) => {
+            let clock = load_clock(peer, 0);
+            NumberAnswer::Number(write_delta(rows, n as usize, clock, output) as u64)
+        }
+    }
+}
+
+// The row counts of the chunks in which that delta goes out: at most max_per_chunk rows and roughly max_bytes bytes each.
+pub fn chunk_ops(
+    rows: &[u8],
+    held: &[u8],
+    head: &[u8],
+    peer: &[u8],
+    max_per_chunk: u64,
+    max_bytes: u64,
+    output: &mut [u8],
+) -> NumberAnswer
+    ensures { λ r. ⌜ Lists (chunkCall (areas (now (rows .entry)) (now (held .entry)) (now (head .entry))) (now (peer .entry)) «max_per_chunk» «max_bytes» (now (output .entry))) (numberOf r) (now (output .exit)) ⌝ }
+{
+    let told = count_rows(rows, held, head, peer, output.len());
+    match told {
+        NumberAnswer::Refused(r) => NumberAnswer::Refused(r),
+        NumberAnswer::Number(n) => {
+            let clock = load_clock(peer, 0);
+            let most = at_least_one(max_per_chunk);
+            NumberAnswer::Number(
+                write_chunks(rows, n as usize, clock, most, max_bytes, output) as u64,
+            )
+        }
+    }
+}
