@@ -73,6 +73,18 @@ pub fn log_of(rows: &[Row], compacted: &Entries) -> ReplicatedLog {
     ReplicatedLog::from_parts(rows.iter().map(operation).collect(), vector(compacted))
 }
 
+/// What a store of that log alone stands for.
+pub fn content_of(log: &ReplicatedLog) -> Content {
+    let marks = log.watermarks().iter();
+    Content {
+        rows: log.ops().iter().map(row).collect(),
+        clock: entries(log.clock()),
+        compacted: entries(log.compacted()),
+        marks: marks.map(|(actor, mark)| (actor.0, stamp(mark))).collect(),
+        ..Content::default()
+    }
+}
+
 /// Whether the clocks and watermarks have places for the log's authors.
 pub fn authors_fit(log: &ReplicatedLog) -> bool {
     log.clock().peers.len() <= AUTHORS && log.watermarks().len() <= AUTHORS
@@ -139,14 +151,10 @@ impl Pair {
     }
 
     pub fn content(&self) -> Content {
-        let marks = self.original.watermarks().iter();
         Content {
-            rows: self.original.ops().iter().map(row).collect(),
             held: self.held.clone(),
             floor: self.floor,
-            clock: entries(self.original.clock()),
-            compacted: entries(self.original.compacted()),
-            marks: marks.map(|(actor, mark)| (actor.0, stamp(mark))).collect(),
+            ..content_of(&self.original)
         }
     }
 

@@ -134,10 +134,13 @@ impl World {
         near
     }
 
-    /// Held rows by stamp, author and sequence, none twice.
+    /// Up to so many held rows by stamp, author and sequence, none twice.
     pub fn held(&self, rng: &mut Rng, count: usize) -> Vec<Held> {
         let mut held: Vec<Held> = Vec::new();
-        for _ in 0..count {
+        for _ in 0..4 * count {
+            if held.len() == count {
+                break;
+            }
             let row = self.row(rng);
             let outcome = rng.next() % 5;
             let detail = if outcome % 2 == 0 && outcome > 0 {

@@ -3,7 +3,7 @@
 use cuwelfra_sys::Told;
 
 use crate::area::word;
-use crate::calls::{shorten, spoil, Others, CALLS};
+use crate::calls::{shorten, spoil, Others, Takes, CALLS};
 use crate::damage::{last_held, DAMAGES, HELD_DAMAGES};
 use crate::rng::Rng;
 use crate::rows::SLOT;
@@ -25,6 +25,7 @@ pub fn run(rng: &mut Rng) -> Outcome {
         let others = Others::new(rng, &world);
         cases += broken_alone(&areas, &others, &mut broken)?;
         cases += short(rng, &areas, &others)?;
+        cases += in_order(&areas, &others)?;
     }
     // Each way found a store to break.
     let unused = broken.iter().position(|times| *times == 0);
@@ -41,9 +42,13 @@ pub fn run(rng: &mut Rng) -> Outcome {
 }
 
 fn sound(rng: &mut Rng) -> (World, Areas) {
-    let world = World::new(rng);
+    let world = if rng.once_in(6) {
+        World::of(rng, 30)
+    } else {
+        World::new(rng)
+    };
     let logged = rng.pick(&[0, 1, 2, 3, 5, 8]);
-    let held = rng.pick(&[0, 1, 2, 3, 5, 62]);
+    let held = rng.pick(&[0, 1, 2, 3, 5, 64]);
     let content = world.content(rng, logged, held);
     let mut areas = worlds::areas(rng, logged);
     areas.write(&content);
@@ -133,6 +138,29 @@ fn short(rng: &mut Rng, areas: &Areas, others: &Others) -> Outcome {
                 cases += 1;
             }
         }
+    }
+    Ok(cases)
+}
+
+/// A damaged store: an other area that is short is refused first, an output that is short last.
+fn in_order(areas: &Areas, others: &Others) -> Outcome {
+    let mut lent = areas.clone();
+    lent.head[8] = 1;
+    let mut cases = 0;
+    for (name, takes, call) in CALLS {
+        let mut cut = others.clone();
+        if shorten(takes, &mut cut) {
+            one_refused(&lent, &cut, call, 2, || format!("{name}, other short"))?;
+            cases += 1;
+        }
+        let mut cut = others.clone();
+        cut.output.clear();
+        one_refused(&lent, &cut, call, 1, || format!("{name}, no output"))?;
+        if takes == Takes::Clock {
+            spoil(takes, &mut cut);
+            one_refused(areas, &cut, call, 1, || format!("{name}, no output"))?;
+        }
+        cases += 1;
     }
     Ok(cases)
 }

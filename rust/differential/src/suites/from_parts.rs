@@ -3,7 +3,7 @@
 use cuwelfra_sys::{self as sys, Told};
 
 use crate::area::{self, BYTES};
-use crate::beside::{authors_fit, entries, log_of, refusal, row, stamp};
+use crate::beside::{authors_fit, content_of, log_of, operation, refusal};
 use crate::rng::Rng;
 use crate::rows::{self, Row, SLOT};
 use crate::store::{same_areas, Areas, Content, Entries, HEAD, HELD};
@@ -21,6 +21,7 @@ pub fn run(rng: &mut Rng) -> Outcome {
             cases += 1;
         }
     }
+    cases += large(rng)?;
     let mut areas = Areas::new(1, 0);
     for _ in 0..LISTS {
         let parts = Parts::random(rng);
@@ -32,6 +33,36 @@ pub fn run(rng: &mut Rng) -> Outcome {
         cases += 1;
     }
     Ok(cases)
+}
+
+/// Logs around 1,024 rows, in areas with 1,026 slots: more rows are 17, and the last two slots stay.
+fn large(rng: &mut Rng) -> Outcome {
+    let world = World::new(rng);
+    for count in [1_023, 1_024, 1_025, 1_026] {
+        let rows = world.rows(rng, count);
+        let mut areas = Areas::new(1_024, 2 * SLOT);
+        areas.held.fill(7);
+        let clock = small_clocks().remove(4);
+        Parts::of(&rows, &clock, 1_024).made(&mut areas)?;
+        if count > 1_024 {
+            continue;
+        }
+        // The 1,024th row fits, the 1,025th does not.
+        let row = world.row(rng);
+        let mut after = areas.clone();
+        let mut told = refused(17);
+        if count < 1_024 {
+            let mut log = log_of(&rows, &clock);
+            log.insert(operation(&row));
+            after.write(&content_of(&log));
+            told = Told::default();
+        }
+        let inputs = || format!("insert into {count} rows");
+        let (log, held, head) = (&mut areas.log, &areas.held, &mut areas.head);
+        agree(&sys::insert(log, held, head, &row.slot()), &told, inputs)?;
+        same_areas(&areas, &after, inputs)?;
+    }
+    Ok(4)
 }
 
 /// All lists of up to `len` rows of two authors, two times and three numbers.
@@ -197,14 +228,7 @@ impl Parts {
         if !authors_fit(&log) {
             return Err(18);
         }
-        let marks = log.watermarks().iter();
-        Ok(Content {
-            rows: log.ops().iter().map(row).collect(),
-            clock: entries(log.clock()),
-            compacted: entries(log.compacted()),
-            marks: marks.map(|(actor, mark)| (actor.0, stamp(mark))).collect(),
-            ..Content::default()
-        })
+        Ok(content_of(&log))
     }
 
     fn made(&self, areas: &mut Areas) -> Check {

@@ -14,11 +14,16 @@ const LOOKUPS: u64 = 200_000;
 pub fn run(rng: &mut Rng) -> Outcome {
     let mut lookups = 0;
     while lookups < LOOKUPS {
-        let world = World::new(rng);
+        let many = rng.once_in(8);
+        let world = if many {
+            World::of(rng, 30)
+        } else {
+            World::new(rng)
+        };
         let logged = rng.below(10);
         let mut pair = Pair::new(rng, &world, logged);
         if rng.once_in(2) {
-            let held = rng.pick(&[1, 5, 5, 64]);
+            let held = if many { 64 } else { 1 + rng.below(8) };
             pair.hold(world.held(rng, held));
         }
         for _ in 0..6 {
