@@ -166,6 +166,14 @@ impl Pair {
         self.areas = self.wanted.clone();
     }
 
+    /// Gives the log so many slots more.
+    pub fn enlarge(&mut self, slots: usize) {
+        self.wanted = Areas::new(self.wanted.capacity() + slots, 0);
+        let content = self.content();
+        self.wanted.write(&content);
+        self.areas = self.wanted.clone();
+    }
+
     /// The areas must hold this log from now on.
     pub fn now(&mut self, original: ReplicatedLog) {
         self.original = original;

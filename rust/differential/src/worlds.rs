@@ -101,6 +101,21 @@ impl World {
         }
     }
 
+    /// A row of each of the first authors, of which some or all have sequence 0.
+    pub fn row_of_each(&self, rng: &mut Rng, authors: usize) -> Vec<Row> {
+        let zeros = rng.once_in(2);
+        let authors = self.authors.iter().take(authors);
+        let rows = authors.map(|author| {
+            let mut row = self.row(rng);
+            row.author = *author;
+            if zeros {
+                row.seq = 0;
+            }
+            row
+        });
+        rows.collect()
+    }
+
     pub fn rows(&self, rng: &mut Rng, count: usize) -> Vec<Row> {
         (0..count).map(|_| self.row(rng)).collect()
     }

@@ -3,13 +3,14 @@
 use cuwelfra_sys::{self as sys, Told};
 use oracle::stubs::ActorId;
 
-use crate::area::{set_word, BYTES};
+use crate::area::{set_word, AUTHORS, BYTES};
 use crate::beside::{
-    authors_fit, clock_area, operation, refusal, stamp, timestamp, told_number, told_stamp,
+    authors_fit, clock_area, log_of, operation, refusal, stamp, timestamp, told_number, told_stamp,
     wrapped_stamp, Pair,
 };
 use crate::rng::Rng;
 use crate::rows::{self, Slot, SLOT};
+use crate::store::Entries;
 use crate::support::{agree, pattern, refused, Check, Outcome};
 use crate::worlds::World;
 
@@ -20,20 +21,15 @@ type ClockCall = fn(sys::Areas, &mut [u8]) -> Told;
 pub fn run(rng: &mut Rng) -> Outcome {
     let mut steps = 0;
     while steps < STEPS {
-        let many = rng.once_in(40);
-        let world = if many {
-            let size = rng.pick(&[31, 32, 33, 34, 40]);
-            World::of(rng, size)
+        let (world, mut pair) = if rng.once_in(30) {
+            crowded(rng)
         } else {
-            World::new(rng)
+            let world = World::new(rng);
+            let logged = rng.below(8);
+            let pair = Pair::new(rng, &world, logged);
+            (world, pair)
         };
-        let logged = if many {
-            26 + rng.below(6)
-        } else {
-            rng.below(8)
-        };
-        let mut pair = Pair::new(rng, &world, logged);
-        for _ in 0..if many { 12 } else { 1 + rng.below(16) } {
+        for _ in 0..1 + rng.below(16) {
             step(rng, &world, &mut pair)?;
             steps += 1;
         }
@@ -45,6 +41,29 @@ pub fn run(rng: &mut Rng) -> Outcome {
         )?;
     }
     Ok(steps)
+}
+
+/// A store whose clock or watermarks are full or almost full.
+fn crowded(rng: &mut Rng) -> (World, Pair) {
+    let size = rng.pick(&[32, 33, 34, 40]);
+    let world = World::of(rng, size);
+    let logged = rng.pick(&[1, 30, 31, 32, 32]);
+    let rows = world.row_of_each(rng, logged);
+    let clock = match rng.below(3) {
+        0 => Entries::new(),
+        1 => world.clock(rng, AUTHORS),
+        _ => {
+            let authors = world.authors.iter().take(AUTHORS);
+            authors.map(|author| (*author, world.seq(rng))).collect()
+        }
+    };
+    let mut original = log_of(&rows, &clock);
+    if !authors_fit(&original) {
+        original = log_of(&rows, &Entries::new());
+    }
+    let mut pair = Pair::of(rng, &world, original);
+    pair.enlarge(20);
+    (world, pair)
 }
 
 fn step(rng: &mut Rng, world: &World, pair: &mut Pair) -> Check {
