@@ -56,20 +56,19 @@ fn small(rng: &mut Rng) -> Outcome {
 }
 
 fn compacted(rng: &mut Rng, pair: &mut Pair, cutoff: Stamp) -> Check {
-    let before = pair.shown();
-    let inputs = || format!("compact to {cutoff:?} of {before}");
+    let inputs = |pair: &Pair| format!("compact to {cutoff:?}, the log {}", pair.shown());
     let mut after = pair.original.clone();
     let removed = after.compact(&timestamp(cutoff)) as u64;
     let answer = if rng.once_in(4) {
         let answer = pair.wrapped(|store| store.compact(&wrapped_stamp(cutoff)));
-        told_number(answer.map_err(|r| format!("{}\n  {r}", inputs()))? as u64)
+        told_number(answer.map_err(|r| format!("{}\n  {r}", inputs(pair)))? as u64)
     } else {
         let areas = &mut pair.areas;
         sys::compact(&mut areas.log, &areas.held, &mut areas.head, cutoff)
     };
-    agree(&answer, &told_number(removed), inputs)?;
+    agree(&answer, &told_number(removed), || inputs(pair))?;
     pair.now(after);
-    pair.same(inputs)
+    pair.same(|| inputs(pair))
 }
 
 /// The clock that the port derives, into an area that is exact, longer or short.

@@ -83,14 +83,13 @@ fn step(rng: &mut Rng, world: &World, pair: &mut Pair) -> Check {
     } else {
         Told::default()
     };
-    let before = pair.shown();
-    let inputs = || format!("insert of {row:02x?} into {before}");
+    let inputs = |pair: &Pair| format!("insert of {row:02x?}, the log {}", pair.shown());
     let told = insert(rng, pair, &row.slot());
-    agree(&told, &wanted, inputs)?;
+    agree(&told, &wanted, || inputs(pair))?;
     if wanted == Told::default() {
         pair.now(after);
     }
-    pair.same(inputs)
+    pair.same(|| inputs(pair))
 }
 
 /// Through the call or through the wrapper.

@@ -70,16 +70,14 @@ fn search(pair: &Pair, author: u64, seq: u64) -> Option<(u64, usize, Vec<u8>)> {
 
 fn lookup(rng: &mut Rng, pair: &mut Pair, author: u64, seq: u64) -> Check {
     let found = search(pair, author, seq);
-    let held: Vec<_> = pair
-        .held
-        .iter()
-        .map(|h| (h.row.author, h.row.seq))
-        .collect();
-    let shown = format!(
-        "lookup of {author}:{seq} among held {held:?} and {}",
-        pair.shown()
-    );
-    let inputs = || shown.clone();
+    let inputs = |pair: &Pair| {
+        let held = pair.held.iter().map(|h| (h.row.author, h.row.seq));
+        let held: Vec<_> = held.collect();
+        format!(
+            "lookup of {author}:{seq} among held {held:?} and {}",
+            pair.shown()
+        )
+    };
     if rng.once_in(4) {
         let answer = pair.wrapped(|store| {
             let found = store.lookup(cuwelfra::ActorId(author), seq);
@@ -89,7 +87,7 @@ fn lookup(rng: &mut Rng, pair: &mut Pair, author: u64, seq: u64) -> Check {
             1 => (Place::Logged(i), payload),
             _ => (Place::Held(i), payload),
         });
-        return agree(&answer, &Ok(wanted), inputs);
+        return agree(&answer, &Ok(wanted), || inputs(pair));
     }
     let told = sys::lookup(pair.areas.lent(), author, seq);
     let wanted = found.as_ref().map(|(place, i, payload)| LookupTold {
@@ -99,7 +97,7 @@ fn lookup(rng: &mut Rng, pair: &mut Pair, author: u64, seq: u64) -> Check {
         start: (i * SLOT + 384) as u64,
         len: payload.len() as u64,
     });
-    agree(&told, &wanted.unwrap_or_default(), inputs)?;
+    agree(&told, &wanted.unwrap_or_default(), || inputs(pair))?;
     let Some((place, _, payload)) = found else {
         return Ok(());
     };
@@ -109,5 +107,5 @@ fn lookup(rng: &mut Rng, pair: &mut Pair, author: u64, seq: u64) -> Check {
         &pair.areas.held
     };
     let part = &area[told.start as usize..][..told.len as usize];
-    agree(&part, &&payload[..], inputs)
+    agree(&part, &&payload[..], || inputs(pair))
 }
