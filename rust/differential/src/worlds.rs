@@ -158,7 +158,7 @@ impl World {
             }
             let row = self.row(rng);
             let outcome = rng.next() % 5;
-            let detail = if outcome % 2 == 0 && outcome > 0 {
+            let detail = if matches!(outcome, 2 | 4) {
                 u64::from(rng.byte())
             } else {
                 0

@@ -13,7 +13,7 @@ use crate::worlds::World;
 const LISTS: usize = 200_000;
 
 pub fn run(rng: &mut Rng) -> Outcome {
-    let mut cases = 0;
+    let mut cases = new_stores()?;
     for list in small_lists(3) {
         for compacted in small_clocks() {
             let parts = Parts::of(&list, &compacted, 3);
@@ -33,6 +33,26 @@ pub fn run(rng: &mut Rng) -> Outcome {
         cases += 1;
     }
     Ok(cases)
+}
+
+/// The wrapper's new stores are all zero, and empty.
+fn new_stores() -> Outcome {
+    let sizes = [0, 1, 2, 1_024, 1_025, usize::MAX];
+    for rows in sizes {
+        let store = cuwelfra::Store::with_capacity(rows);
+        let wanted = match rows {
+            0 => Err(2),
+            1..=1_024 => Ok((Areas::new(rows, 0), Ok(()), Ok(0), Ok(None))),
+            _ => Err(4),
+        };
+        let store = store.map_err(|refusal| refusal.number()).map(|store| {
+            let answers = (store.check(), store.log_len(), store.logged(0));
+            let (log, held, head) = store.into_areas();
+            (Areas { log, held, head }, answers.0, answers.1, answers.2)
+        });
+        agree(&store, &wanted, || format!("a store of {rows} rows"))?;
+    }
+    Ok(sizes.len() as u64)
 }
 
 /// Logs around 1,024 rows, in areas with 1,026 slots: more rows are 17, and the last two slots stay.
@@ -258,7 +278,7 @@ impl Parts {
     /// Through the wrapper where it can say the same.
     fn call(&self, areas: &mut Areas) -> Told {
         let exact = self.parts.len() == self.count.wrapping_mul(SLOT) && self.clock.len() == BYTES;
-        if !exact || self.count % 2 == 0 {
+        if !exact || self.count & 1 == 0 {
             return sys::from_parts(
                 &mut areas.log,
                 &mut areas.held,

@@ -228,7 +228,8 @@ impl Peers {
 
     fn step(&mut self, rng: &mut Rng, call: &Call) -> Check {
         if rng.once_in(4) {
-            return self.compared(call, wrapped);
+            self.compared(call, wrapped)?;
+            return self.same_fields();
         }
         let behind = rng.pick(&[0, 0, 1, 64]);
         self.compared(call, |area, call| port(area, call, behind))
@@ -246,6 +247,30 @@ impl Peers {
         agree(&self.area, &after, inputs)?;
         self.peer = peer;
         Ok(())
+    }
+
+    /// The wrapper gives the original's fields.
+    fn same_fields(&self) -> Check {
+        let peer = &self.peer;
+        let port = cuwelfra::Peer::from_area(self.area);
+        let inputs = || format!("the fields of {:02x?}", self.area);
+        let times = (
+            port.last_seen_ms(),
+            port.last_ping_ms(),
+            port.last_hello_ms(),
+        );
+        let wanted = (peer.last_seen_ms, peer.last_ping_ms, peer.last_hello_ms);
+        agree(&(port.id().0, times), &(peer.id.0, wanted), inputs)?;
+        let pings = (port.outstanding_pings(), port.answered_pings());
+        let wanted = (
+            Ok(peer.outstanding_pings.clone()),
+            Ok(peer.answered_pings.clone()),
+        );
+        agree(&pings, &wanted, inputs)?;
+        let state = port.state().map(|state| format!("{state:?}"));
+        agree(&state, &Ok(format!("{:?}", peer.state)), inputs)?;
+        let clock = clock_area(&peer.remote_clock);
+        agree(port.remote_clock().area(), &clock, inputs)
     }
 
     /// The same call on a short area or one that breaks a rule is refused and changes nothing.

@@ -18,6 +18,8 @@ const SLOTS: usize = 200_000;
 /// Rows that are written into and read from every length.
 const EVERY_LENGTH: usize = 300;
 
+type Write = fn(&[u8], &mut [u8]) -> Written;
+
 pub fn run(rng: &mut Rng) -> Outcome {
     let mut cases = 0;
     for _ in 0..ROWS {
@@ -52,8 +54,8 @@ fn signed(row: &Row) -> Vec<u8> {
 fn written(rng: &mut Rng, row: &Row) -> Check {
     let mut slot = row.slot().to_vec();
     slot.extend(pattern(rng.pick(&[0, 0, 1, 64])));
-    let forms: [(&str, Vec<u8>, fn(&[u8], &mut [u8]) -> Written); 2] = [
-        ("unsigned_op", unsigned(row), sys::unsigned_op),
+    let forms = [
+        ("unsigned_op", unsigned(row), sys::unsigned_op as Write),
         ("signed_op", signed(row), sys::signed_op),
     ];
     for (what, bytes, call) in forms {
@@ -87,9 +89,10 @@ fn written(rng: &mut Rng, row: &Row) -> Check {
     let back = wrapped.row().map(|held| held.row);
     agree(&back, &Ok(wrapped_row(row)), inputs)?;
     let mut out = [0; MAX_OP_BYTES];
-    let len = wrapped.signed_op(&mut out).map_err(|r| r.number());
-    let bytes = len.map(|len| out[..len].to_vec());
-    agree(&bytes, &Ok(signed(row)), inputs)
+    let bytes = wrapped.signed_op(&mut out).map(|len| out[..len].to_vec());
+    agree(&bytes, &Ok(signed(row)), inputs)?;
+    let bytes = wrapped.unsigned_op(&mut out).map(|len| out[..len].to_vec());
+    agree(&bytes, &Ok(unsigned(row)), inputs)
 }
 
 fn wrapped_row(row: &Row) -> WrappedRow {
@@ -139,9 +142,10 @@ fn read_back(rng: &mut Rng, row: &Row) -> Check {
         outcome: held.outcome as u8,
         detail: held.detail as u8,
     };
-    agree(&read, &Ok((Ok(wanted), verdict == 1, next)), || {
-        format!("the wrapper's read at {at} of {batch:02x?}")
-    })
+    let inputs = || format!("the wrapper's read at {at} of {batch:02x?}");
+    let slot = WrappedSlot::held(&wanted).map(|slot| *slot.area());
+    agree(&slot, &Ok(held.slot()), inputs)?;
+    agree(&read, &Ok((Ok(wanted), verdict == 1, next)), inputs)
 }
 
 /// Requires that reading answers so; a refusal leaves the slot, and what lies behind it always stays.
