@@ -25,12 +25,16 @@ mod log_insert;
 #[cfg(oracle_present)]
 mod lookup;
 #[cfg(oracle_present)]
+mod peer_pending;
+#[cfg(oracle_present)]
 mod peers;
 #[cfg(oracle_present)]
 mod readers;
 mod refusals;
 #[cfg(oracle_present)]
 mod row_bytes;
+#[cfg(oracle_present)]
+mod row_faults;
 #[cfg(oracle_present)]
 mod timestamp;
 #[cfg(oracle_present)]
@@ -96,6 +100,7 @@ pub const SUITES: &[Suite] = &[
     beside_original!("vector", vector::run),
     alone!("vector-areas", vector_areas::run),
     beside_original!("row-bytes", row_bytes::run),
+    beside_original!("row-faults", row_faults::run),
     beside_original!("log-insert", log_insert::run),
     beside_original!("from-parts", from_parts::run),
     beside_original!("compact", compact::run),
@@ -104,5 +109,6 @@ pub const SUITES: &[Suite] = &[
     beside_original!("chunks", chunks::run),
     beside_original!("lookup", lookup::run),
     beside_original!("peers", peers::run),
+    beside_original!("peer-pending", peer_pending::run),
     alone!("damaged-stores", damaged_stores::run),
 ];

@@ -1,23 +1,21 @@
 //! Lists of calls on one peer. The whole area is compared after each call.
 
-use cuwelfra_sys::{self as sys, ClockNumber, Told};
+use cuwelfra_sys::{self as sys, Told};
 use oracle::peer::{Peer, PeerState};
 use oracle::stubs::ActorId;
 
 use crate::area::{set_word, word, AUTHORS, BYTES};
-use crate::beside::{clock_area, entries, refusal, told_number, vector, Pair};
+use crate::beside::{clock_area, entries, refusal, vector};
 use crate::rng::Rng;
 use crate::store::Entries;
 use crate::support::{agree, pattern, refused, Check, Outcome};
 use crate::worlds::World;
 
 const STEPS: u64 = 600_000;
-/// Questions that need a store.
-const PENDING: u64 = 200_000;
-const PEER: usize = 704;
+pub const PEER: usize = 704;
 /// Words of the two lists of nonces.
-const OUTSTANDING: usize = 69;
-const ANSWERED: usize = 78;
+pub const OUTSTANDING: usize = 69;
+pub const ANSWERED: usize = 78;
 
 type Area = [u8; PEER];
 
@@ -36,18 +34,7 @@ pub fn run(rng: &mut Rng) -> Outcome {
         }
     }
     cases += steps;
-    let mut pending = 0;
-    while pending < PENDING {
-        let world = World::new(rng);
-        let logged = rng.below(14);
-        let mut pair = Pair::new(rng, &world, logged);
-        for _ in 0..6 {
-            pending_ops(rng, &world, &mut pair)?;
-            pending += 1;
-        }
-        pair.same(|| format!("pending_ops of {}", pair.shown()))?;
-    }
-    Ok(cases + pending)
+    Ok(cases)
 }
 
 #[derive(Clone, Debug)]
@@ -98,7 +85,7 @@ fn small() -> Outcome {
 }
 
 /// The original's fields; unused places of the two lists are as in `unused`.
-fn encode(peer: &Peer, unused: &Area) -> Area {
+pub fn encode(peer: &Peer, unused: &Area) -> Area {
     let mut area = *unused;
     set_word(&mut area, 0, peer.id.0);
     let state = match peer.state {
@@ -365,39 +352,4 @@ fn wrapped(area: &mut Area, call: &Call) -> Told {
     };
     *area = *peer.area();
     refusal(answer)
-}
-
-/// How many logged rows the peer lacks; refused where its area is short or breaks a rule.
-fn pending_ops(rng: &mut Rng, world: &World, pair: &mut Pair) -> Check {
-    let mut peer = Peer::new(ActorId(rng.edge()));
-    let clock = entries(pair.original.clock());
-    peer.remote_clock = vector(&world.near_clock(rng, &clock));
-    let mut area = encode(&peer, &[0; PEER]);
-    let count = peer.pending_ops(&pair.original) as u64;
-    let mut wanted = told_number(count);
-    let inputs = |pair: &Pair| {
-        let clock = entries(&peer.remote_clock);
-        format!("pending_ops of {clock:?} in {}", pair.shown())
-    };
-    if rng.once_in(4) {
-        let peer = cuwelfra::Peer::from_area(area);
-        let answer = pair.wrapped(|store| peer.pending_ops(store));
-        return agree(&answer, &Ok(count as usize), || inputs(pair));
-    }
-    let mut len = PEER;
-    if rng.once_in(8) {
-        let number = rng.pick(&[1, 2]);
-        if number == 1 {
-            let place = rng.pick(&[1, 2, OUTSTANDING, ANSWERED]);
-            set_word(&mut area, place, 33);
-        } else {
-            len -= 1;
-        }
-        wanted = ClockNumber {
-            told: refused(number),
-            number: 0,
-        };
-    }
-    let answer = sys::peer_pending_ops(&area[..len], pair.areas.lent());
-    agree(&answer, &wanted, || inputs(pair))
 }
