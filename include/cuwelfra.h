@@ -93,7 +93,6 @@ typedef struct {
     cuwelfra_told told;
     uint64_t place;
     uint64_t slot;
-    uint64_t start;
     uint64_t len;
 } cuwelfra_lookup_told;
 

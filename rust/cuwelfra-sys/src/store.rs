@@ -28,9 +28,7 @@ pub struct LookupTold {
     pub place: u64,
     /// Its slot in that area.
     pub slot: u64,
-    /// Where its payload starts in that area.
-    pub start: u64,
-    /// The payload's length.
+    /// The length of its payload, which stands at 384 in the slot.
     pub len: u64,
 }
 

@@ -157,7 +157,7 @@ impl Store {
             1 => (&self.log, Place::Logged(told.slot as usize)),
             _ => (&self.held, Place::Held(told.slot as usize)),
         };
-        let payload = &area[told.start as usize..][..told.len as usize];
+        let payload = &area[told.slot as usize * 704 + 384..][..told.len as usize];
         Ok(Some(Found { place, payload }))
     }
 

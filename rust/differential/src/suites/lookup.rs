@@ -94,7 +94,6 @@ fn lookup(rng: &mut Rng, pair: &mut Pair, author: u64, seq: u64) -> Check {
         told: Told::default(),
         place: *place,
         slot: *i as u64,
-        start: (i * SLOT + 384) as u64,
         len: payload.len() as u64,
     });
     agree(&told, &wanted.unwrap_or_default(), || inputs(pair))?;
@@ -106,6 +105,6 @@ fn lookup(rng: &mut Rng, pair: &mut Pair, author: u64, seq: u64) -> Check {
     } else {
         &pair.areas.held
     };
-    let part = &area[told.start as usize..][..told.len as usize];
+    let part = &area[told.slot as usize * SLOT + 384..][..told.len as usize];
     agree(&part, &&payload[..], || inputs(pair))
 }
