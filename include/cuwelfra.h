@@ -87,7 +87,7 @@ typedef struct {
     uint64_t actor_id;
 } cuwelfra_stamp_told;
 
-/* Where a row stands: place 0 absent, 1 logged, 2 held; its slot, and where its payload stands in that area; all 0 when
+/* Where a row stands: place 0 absent, 1 logged, 2 held; its slot, and the length of its payload, which stands at 384 in the slot; all 0 when
    refused or absent. */
 typedef struct {
     cuwelfra_told told;
