@@ -78,6 +78,31 @@ typedef struct {
     uint64_t number;
 } cuwelfra_clock_number;
 
+/* A stamp that may be absent: present is 1 or 0; all 0 when refused or absent. */
+typedef struct {
+    cuwelfra_told told;
+    uint64_t present;
+    uint64_t wall_time;
+    uint64_t logical_counter;
+    uint64_t actor_id;
+} cuwelfra_stamp_told;
+
+/* Where a row stands: place 0 absent, 1 logged, 2 held; its slot, and the length of its payload, which stands at 384 in the slot; all 0 when
+   refused or absent. */
+typedef struct {
+    cuwelfra_told told;
+    uint64_t place;
+    uint64_t slot;
+    uint64_t len;
+} cuwelfra_lookup_told;
+
+/* The position past a batch row and the verifier's answer; both 0 when refused. */
+typedef struct {
+    cuwelfra_told told;
+    uint64_t next;
+    uint64_t verdict;
+} cuwelfra_op_told;
+
 /* ---- Bytes */
 
 /* How many bytes the shortest varint of v has. */
@@ -138,6 +163,92 @@ cuwelfra_clock_number cuwelfra_clock_dominates(const uint8_t *clock, size_t cloc
 /* 0 before, 1 after, 2 equal, 3 concurrent. */
 cuwelfra_clock_number cuwelfra_clock_compare(const uint8_t *clock, size_t clock_len, const uint8_t *other,
                                              size_t other_len);
+
+/* ---- Rows
+   A slot is 704 bytes. 16 words: wall, counter, stamp author, author, sequence, dependency count, payload length, signature
+   length, arrival, outcome, detail, five zero. At 128 16 pairs of author and number, authors strictly rising; at 384 256
+   payload bytes; at 640 64 signature bytes. Unused is zero. */
+
+#define CUWELFRA_SLOT_BYTES 704
+
+/* Write the row of a slot at the start of out; 2 for the slot, 1, 2 for out. */
+cuwelfra_written cuwelfra_unsigned_op(const uint8_t *slot, size_t slot_len, uint8_t *out, size_t out_len);
+cuwelfra_written cuwelfra_signed_op(const uint8_t *slot, size_t slot_len, uint8_t *out, size_t out_len);
+/* Reads the batch row at position at into a slot, with arrival 0; 2 for the slot, then 3 or 4 by the first fault. */
+cuwelfra_op_told cuwelfra_read_op(const uint8_t *batch, size_t batch_len, size_t at, uint8_t *slot, size_t slot_len);
+
+/* ---- The store
+   Three areas. log: length / 704 slots, at most 1,024, at least one. held: 64 slots. head, in words: log count, held count,
+   floor flag, floor stamp (3), clock (65), compacted clock (65), watermark count, 32 watermarks (author and stamp, 4). All
+   zero is the empty store. Every call tests the whole store: 2 for all areas of fixed size, then 1. */
+
+#define CUWELFRA_HELD_BYTES 45056
+#define CUWELFRA_HEAD_BYTES 2120
+
+cuwelfra_told cuwelfra_store_check(const uint8_t *log, size_t log_len, const uint8_t *held, size_t held_len,
+                                   const uint8_t *head, size_t head_len);
+cuwelfra_clock_number cuwelfra_log_len(const uint8_t *log, size_t log_len, const uint8_t *held, size_t held_len,
+                                       const uint8_t *head, size_t head_len);
+cuwelfra_clock_number cuwelfra_pending_len(const uint8_t *log, size_t log_len, const uint8_t *held, size_t held_len,
+                                           const uint8_t *head, size_t head_len);
+cuwelfra_stamp_told cuwelfra_floor(const uint8_t *log, size_t log_len, const uint8_t *held, size_t held_len,
+                                   const uint8_t *head, size_t head_len);
+cuwelfra_stamp_told cuwelfra_watermark(const uint8_t *log, size_t log_len, const uint8_t *held, size_t held_len,
+                                       const uint8_t *head, size_t head_len, uint64_t actor);
+/* Into a clock area. */
+cuwelfra_told cuwelfra_log_clock(const uint8_t *log, size_t log_len, const uint8_t *held, size_t held_len,
+                                 const uint8_t *head, size_t head_len, uint8_t *clock, size_t clock_len);
+cuwelfra_told cuwelfra_log_compacted(const uint8_t *log, size_t log_len, const uint8_t *held, size_t held_len,
+                                     const uint8_t *head, size_t head_len, uint8_t *clock, size_t clock_len);
+cuwelfra_told cuwelfra_derive_clock(const uint8_t *log, size_t log_len, const uint8_t *held, size_t held_len,
+                                    const uint8_t *head, size_t head_len, uint8_t *clock, size_t clock_len);
+/* 1 or 0; peer is a clock area. */
+cuwelfra_clock_number cuwelfra_can_serve(const uint8_t *log, size_t log_len, const uint8_t *held, size_t held_len,
+                                         const uint8_t *head, size_t head_len, const uint8_t *peer, size_t peer_len);
+/* Among the logged, first place first, then the held. */
+cuwelfra_lookup_told cuwelfra_lookup(const uint8_t *log, size_t log_len, const uint8_t *held, size_t held_len,
+                                     const uint8_t *head, size_t head_len, uint64_t actor, uint64_t seq);
+/* 17, 18. */
+cuwelfra_told cuwelfra_insert(uint8_t *log, size_t log_len, const uint8_t *held, size_t held_len, uint8_t *head,
+                              size_t head_len, const uint8_t *slot, size_t slot_len);
+/* Makes the store anew from count slots of logged rows, without held rows and floor; 2, 1, 17, 18. */
+cuwelfra_told cuwelfra_from_parts(uint8_t *log, size_t log_len, uint8_t *held, size_t held_len, uint8_t *head,
+                                  size_t head_len, const uint8_t *parts, size_t parts_len, size_t count,
+                                  const uint8_t *compacted, size_t compacted_len);
+/* Removes the stamps at or below the cutoff and gives how many. */
+cuwelfra_clock_number cuwelfra_compact(uint8_t *log, size_t log_len, const uint8_t *held, size_t held_len, uint8_t *head,
+                                       size_t head_len, uint64_t wall_time, uint32_t logical_counter, uint64_t actor_id);
+cuwelfra_stamp_told cuwelfra_cutoff(const uint8_t *log, size_t log_len, const uint8_t *held, size_t held_len,
+                                    const uint8_t *head, size_t head_len, const uint8_t *frontier, size_t frontier_len);
+/* Log positions, and the row counts of that delta's chunks: eight big-endian bytes each. They give how many; an output
+   below 8 bytes for each logged row is 2, last of all. */
+cuwelfra_clock_number cuwelfra_calculate_delta(const uint8_t *log, size_t log_len, const uint8_t *held, size_t held_len,
+                                               const uint8_t *head, size_t head_len, const uint8_t *peer, size_t peer_len,
+                                               uint8_t *output, size_t output_len);
+cuwelfra_clock_number cuwelfra_chunk_ops(const uint8_t *log, size_t log_len, const uint8_t *held, size_t held_len,
+                                         const uint8_t *head, size_t head_len, const uint8_t *peer, size_t peer_len,
+                                         uint64_t max_per_chunk, uint64_t max_bytes, uint8_t *output, size_t output_len);
+
+/* ---- Peers
+   A peer area, in words: id, state (0 connecting, 1 syncing, 2 up to date, 3 disconnected), remote clock (65), last_seen,
+   last_ping, outstanding count and 8 nonces, answered count and 8 nonces, last_hello. */
+
+#define CUWELFRA_PEER_BYTES 704
+
+cuwelfra_told cuwelfra_peer_new(uint8_t *peer, size_t peer_len, uint64_t id);
+cuwelfra_told cuwelfra_peer_connection_started(uint8_t *peer, size_t peer_len, uint64_t now);
+cuwelfra_told cuwelfra_peer_connection_lost(uint8_t *peer, size_t peer_len);
+/* 18. */
+cuwelfra_told cuwelfra_peer_absorb_clock(uint8_t *peer, size_t peer_len, const uint8_t *clock, size_t clock_len);
+cuwelfra_told cuwelfra_peer_replace_clock(uint8_t *peer, size_t peer_len, const uint8_t *clock, size_t clock_len);
+cuwelfra_told cuwelfra_peer_record_ping(uint8_t *peer, size_t peer_len, uint64_t now);
+/* 21. */
+cuwelfra_told cuwelfra_peer_take_pong(uint8_t *peer, size_t peer_len, uint64_t nonce);
+cuwelfra_told cuwelfra_peer_rebase_timers(uint8_t *peer, size_t peer_len, uint64_t now);
+/* How many logged rows the peer has not acknowledged. */
+cuwelfra_clock_number cuwelfra_peer_pending_ops(const uint8_t *peer, size_t peer_len, const uint8_t *log, size_t log_len,
+                                                const uint8_t *held, size_t held_len, const uint8_t *head,
+                                                size_t head_len);
 
 #ifdef __cplusplus
 }

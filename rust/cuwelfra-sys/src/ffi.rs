@@ -90,4 +90,218 @@ extern "C" {
         other: *const u8,
         other_len: usize,
     ) -> ClockNumber;
+
+    // Rows.
+    pub fn cuwelfra_unsigned_op(
+        slot: *const u8,
+        slot_len: usize,
+        out: *mut u8,
+        out_len: usize,
+    ) -> Written;
+    pub fn cuwelfra_signed_op(
+        slot: *const u8,
+        slot_len: usize,
+        out: *mut u8,
+        out_len: usize,
+    ) -> Written;
+    pub fn cuwelfra_read_op(
+        batch: *const u8,
+        batch_len: usize,
+        at: usize,
+        slot: *mut u8,
+        slot_len: usize,
+    ) -> OpTold;
+
+    // The store.
+    pub fn cuwelfra_store_check(
+        log: *const u8,
+        log_len: usize,
+        held: *const u8,
+        held_len: usize,
+        head: *const u8,
+        head_len: usize,
+    ) -> Told;
+    pub fn cuwelfra_log_len(
+        log: *const u8,
+        log_len: usize,
+        held: *const u8,
+        held_len: usize,
+        head: *const u8,
+        head_len: usize,
+    ) -> ClockNumber;
+    pub fn cuwelfra_pending_len(
+        log: *const u8,
+        log_len: usize,
+        held: *const u8,
+        held_len: usize,
+        head: *const u8,
+        head_len: usize,
+    ) -> ClockNumber;
+    pub fn cuwelfra_floor(
+        log: *const u8,
+        log_len: usize,
+        held: *const u8,
+        held_len: usize,
+        head: *const u8,
+        head_len: usize,
+    ) -> StampTold;
+    pub fn cuwelfra_watermark(
+        log: *const u8,
+        log_len: usize,
+        held: *const u8,
+        held_len: usize,
+        head: *const u8,
+        head_len: usize,
+        actor: u64,
+    ) -> StampTold;
+    pub fn cuwelfra_log_clock(
+        log: *const u8,
+        log_len: usize,
+        held: *const u8,
+        held_len: usize,
+        head: *const u8,
+        head_len: usize,
+        clock: *mut u8,
+        clock_len: usize,
+    ) -> Told;
+    pub fn cuwelfra_log_compacted(
+        log: *const u8,
+        log_len: usize,
+        held: *const u8,
+        held_len: usize,
+        head: *const u8,
+        head_len: usize,
+        clock: *mut u8,
+        clock_len: usize,
+    ) -> Told;
+    pub fn cuwelfra_derive_clock(
+        log: *const u8,
+        log_len: usize,
+        held: *const u8,
+        held_len: usize,
+        head: *const u8,
+        head_len: usize,
+        clock: *mut u8,
+        clock_len: usize,
+    ) -> Told;
+    pub fn cuwelfra_can_serve(
+        log: *const u8,
+        log_len: usize,
+        held: *const u8,
+        held_len: usize,
+        head: *const u8,
+        head_len: usize,
+        peer: *const u8,
+        peer_len: usize,
+    ) -> ClockNumber;
+    pub fn cuwelfra_lookup(
+        log: *const u8,
+        log_len: usize,
+        held: *const u8,
+        held_len: usize,
+        head: *const u8,
+        head_len: usize,
+        actor: u64,
+        seq: u64,
+    ) -> LookupTold;
+    pub fn cuwelfra_cutoff(
+        log: *const u8,
+        log_len: usize,
+        held: *const u8,
+        held_len: usize,
+        head: *const u8,
+        head_len: usize,
+        frontier: *const u8,
+        frontier_len: usize,
+    ) -> StampTold;
+    pub fn cuwelfra_calculate_delta(
+        log: *const u8,
+        log_len: usize,
+        held: *const u8,
+        held_len: usize,
+        head: *const u8,
+        head_len: usize,
+        peer: *const u8,
+        peer_len: usize,
+        output: *mut u8,
+        output_len: usize,
+    ) -> ClockNumber;
+    pub fn cuwelfra_chunk_ops(
+        log: *const u8,
+        log_len: usize,
+        held: *const u8,
+        held_len: usize,
+        head: *const u8,
+        head_len: usize,
+        peer: *const u8,
+        peer_len: usize,
+        max_per_chunk: u64,
+        max_bytes: u64,
+        output: *mut u8,
+        output_len: usize,
+    ) -> ClockNumber;
+    pub fn cuwelfra_insert(
+        log: *mut u8,
+        log_len: usize,
+        held: *const u8,
+        held_len: usize,
+        head: *mut u8,
+        head_len: usize,
+        slot: *const u8,
+        slot_len: usize,
+    ) -> Told;
+    pub fn cuwelfra_from_parts(
+        log: *mut u8,
+        log_len: usize,
+        held: *mut u8,
+        held_len: usize,
+        head: *mut u8,
+        head_len: usize,
+        parts: *const u8,
+        parts_len: usize,
+        count: usize,
+        compacted: *const u8,
+        compacted_len: usize,
+    ) -> Told;
+    pub fn cuwelfra_compact(
+        log: *mut u8,
+        log_len: usize,
+        held: *const u8,
+        held_len: usize,
+        head: *mut u8,
+        head_len: usize,
+        wall_time: u64,
+        logical_counter: u32,
+        actor_id: u64,
+    ) -> ClockNumber;
+
+    // Peers.
+    pub fn cuwelfra_peer_new(peer: *mut u8, peer_len: usize, id: u64) -> Told;
+    pub fn cuwelfra_peer_connection_started(peer: *mut u8, peer_len: usize, now: u64) -> Told;
+    pub fn cuwelfra_peer_connection_lost(peer: *mut u8, peer_len: usize) -> Told;
+    pub fn cuwelfra_peer_absorb_clock(
+        peer: *mut u8,
+        peer_len: usize,
+        clock: *const u8,
+        clock_len: usize,
+    ) -> Told;
+    pub fn cuwelfra_peer_replace_clock(
+        peer: *mut u8,
+        peer_len: usize,
+        clock: *const u8,
+        clock_len: usize,
+    ) -> Told;
+    pub fn cuwelfra_peer_record_ping(peer: *mut u8, peer_len: usize, now: u64) -> Told;
+    pub fn cuwelfra_peer_take_pong(peer: *mut u8, peer_len: usize, nonce: u64) -> Told;
+    pub fn cuwelfra_peer_rebase_timers(peer: *mut u8, peer_len: usize, now: u64) -> Told;
+    pub fn cuwelfra_peer_pending_ops(
+        peer: *const u8,
+        peer_len: usize,
+        log: *const u8,
+        log_len: usize,
+        held: *const u8,
+        held_len: usize,
+        head: *const u8,
+        head_len: usize,
+    ) -> ClockNumber;
 }

@@ -8,9 +8,15 @@ pub mod ffi;
 
 mod clocks;
 mod codec;
+mod peers;
+mod rows;
+mod store;
 
 pub use clocks::*;
 pub use codec::*;
+pub use peers::*;
+pub use rows::*;
+pub use store::*;
 
 /// A refusal as numbers. `number` 0: not refused; else document 01's number and its values.
 #[repr(C)]

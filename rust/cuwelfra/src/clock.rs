@@ -23,7 +23,7 @@ pub struct Timestamp {
 }
 
 impl Timestamp {
-    fn parts(&self) -> (u64, u32, u64) {
+    pub(crate) fn parts(&self) -> (u64, u32, u64) {
         (self.wall_time, self.logical_counter, self.actor_id.0)
     }
 }
@@ -206,7 +206,7 @@ impl VectorClock {
     }
 }
 
-fn number(answer: sys::ClockNumber) -> Result<u64, Refusal> {
+pub(crate) fn number(answer: sys::ClockNumber) -> Result<u64, Refusal> {
     Refusal::check(answer.told)?;
     Ok(answer.number)
 }

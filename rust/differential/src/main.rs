@@ -7,10 +7,17 @@
 
 mod area;
 #[cfg(oracle_present)]
+mod beside;
+mod calls;
+mod damage;
+#[cfg(oracle_present)]
 mod original;
 mod rng;
+mod rows;
+mod store;
 mod suites;
 mod support;
+mod worlds;
 
 use std::process::ExitCode;
 

@@ -4,12 +4,37 @@ use crate::rng::Rng;
 use crate::support::Outcome;
 
 #[cfg(oracle_present)]
+mod chunks;
+#[cfg(oracle_present)]
+mod compact;
+#[cfg(oracle_present)]
+mod cutoff;
+mod damaged_stores;
+#[cfg(oracle_present)]
+mod delta;
+#[cfg(oracle_present)]
 mod envelope;
+#[cfg(oracle_present)]
+mod from_parts;
 #[cfg(oracle_present)]
 mod hybrid;
 #[cfg(oracle_present)]
+mod listed;
+#[cfg(oracle_present)]
+mod log_insert;
+#[cfg(oracle_present)]
+mod lookup;
+#[cfg(oracle_present)]
+mod peer_pending;
+#[cfg(oracle_present)]
+mod peers;
+#[cfg(oracle_present)]
 mod readers;
 mod refusals;
+#[cfg(oracle_present)]
+mod row_bytes;
+#[cfg(oracle_present)]
+mod row_faults;
 #[cfg(oracle_present)]
 mod timestamp;
 #[cfg(oracle_present)]
@@ -74,4 +99,16 @@ pub const SUITES: &[Suite] = &[
     beside_original!("hybrid", hybrid::run),
     beside_original!("vector", vector::run),
     alone!("vector-areas", vector_areas::run),
+    beside_original!("row-bytes", row_bytes::run),
+    beside_original!("row-faults", row_faults::run),
+    beside_original!("log-insert", log_insert::run),
+    beside_original!("from-parts", from_parts::run),
+    beside_original!("compact", compact::run),
+    beside_original!("cutoff", cutoff::run),
+    beside_original!("delta", delta::run),
+    beside_original!("chunks", chunks::run),
+    beside_original!("lookup", lookup::run),
+    beside_original!("peers", peers::run),
+    beside_original!("peer-pending", peer_pending::run),
+    alone!("damaged-stores", damaged_stores::run),
 ];
