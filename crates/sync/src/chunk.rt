@@ -2,7 +2,7 @@
 use crate::scan::is_missing;
 use clock::vector::VectorClock;
 use row::raw::read_slot;
-use row::raw_wire::unsigned_len;
+use row::raw::unsigned_len;
 use words::raw::put_word;
 ghost use mathlib.Core.Path.{_≡_};
 ghost use mathlib.Core.Bool.{true};
