@@ -9,7 +9,7 @@ use Rattle.clock.specs.Hlc.{Hlc, max, receiveL, receiveC, receiveEvent}
 use Rattle.clock.specs.Hybrid.{saturating}
 use Rattle.clock.specs.Entries.{get, dominates}
 use Rattle.clock.specs.Vector.{orderOf}
-use Rattle.codec.specs.Leb128.{groups, ends, valueOf, groupsOf, shortest}
+use Rattle.codec.specs.Leb128.{groups, ends, valueOf, groupsBy, groupsOf, shortest}
 use Rattle.codec.specs.Reading.{judged, judge, getVarint}
 use Rattle.codec.proofs.Laws.{varints}
 use Rattle.row.specs.Rows.{Row, HeldRow}
@@ -79,7 +79,7 @@ pub record P : Type 0 where
   pub ahead : refusal (validate (drifting 60000) 1000 (signedAt 61001)) ≡ 11
 
 pub p : P
-unfolding shortest groupsOf groups ends valueOf judged judge getVarint max receiveL receiveC receiveEvent dominates get orderOf expireBy unexpired ownFuture saturating validate
+unfolding shortest groupsOf groupsBy groups ends valueOf judged judge getVarint max receiveL receiveC receiveEvent dominates get orderOf expireBy unexpired ownFuture saturating validate
 p =
     record {
       three-hundred = refl;
