@@ -1,6 +1,0 @@
-pub mod Refs
-pub mod Promises
-pub mod Columns
-pub mod Ticks
-pub mod Looks
-pub mod Entry
