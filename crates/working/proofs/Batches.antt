@@ -1,0 +1,249 @@
+-- The loop over the rows of a batch, and that over the held rows. Assumes nothing.
+use Prim.Native.Nat.{ℕ, zero, suc, _+_, _-_, _*_, _≤_, _<_}
+use mathlib.Core.Path.{_≡_, refl, sym, _∙_, ap}
+use mathlib.Core.Bool.{Bool, true, false}
+use mathlib.Core.Logic.{inl}
+use mathlib.Core.List.{List, [], _∷_, _++_, append-assoc, append-nil}
+use native.Mathlib.Omega.{arith}
+use lib.Dec.{leb}
+use lib.ListN.{length}
+use borrow.Author.Tests.{le-leb, lt-leb}
+use Rattle.words.specs.Be.{get64}
+use Rattle.error.specs.declared.Refusal.the-variants as refusal
+use Rattle.error.specs.Answer.{andThen, Got, got, bad, after}
+use Rattle.row.specs.Slots.{slotAt, slotOk, slotsAt, decodeHeld}
+use Rattle.row.specs.Reading.{BatchRow, readRow}
+use Rattle.row.proofs.Ops.{word-part}
+use Rattle.merging.specs.Batch.{readRows}
+use Rattle.merging.specs.Merging.{admit, admitAll, expireBy, unexpired}
+use Rattle.working.specs.Refs.{isRead, refsOk, workRows, cells}
+use Rattle.working.specs.Promises.{Working, Unexpired, AdmitsAll}
+use Rattle.working.specs.Columns.{Written}
+use Rattle.working.specs.Entry.{admitted, Admits}
+use Rattle.working.specs.Entry.Admits.{is-duplicate, is-conflict, is-entered}
+use Rattle.working.specs.declared.Admitting.{Admitting}
+use Rattle.working.specs.declared.Admitting.the-variants.{Entered, Refused}
+use Rattle.working.specs.declared.entering.Admit.{Admit}
+use Rattle.working.specs.declared.entering.Admit.the-variants as answer
+use Rattle.working.proofs.Cells.{cells-more, cells-keep, Refs, none, of-refs, refs-snoc}
+use Rattle.working.proofs.Rows.{after-read, work-held, held-ok}
+use Rattle.working.proofs.Emptying.{rows-snoc}
+
+-- ---- rows one behind the other
+abbrev pub rowsIn : Got (List BatchRow) → List BatchRow
+rowsIn (got bs n) = bs
+rowsIn (bad r) = []
+
+and-rest : (b : BatchRow) (g : Got (List BatchRow)) → isRead (after g (λ bs n. got (b ∷ bs) n)) ≡ true
+    → (isRead g ≡ true) × (rowsIn (after g (λ bs n. got (b ∷ bs) n)) ≡ b ∷ rowsIn g)
+and-rest b (got bs n) t = (refl, refl)
+and-rest b (bad r) t = absurd (let z : _≡_ {A = ℕ} 0 1 = cc in omega arith)
+
+module _ (s : List ℕ) (m at : ℕ) (t : isRead (readRows s (suc m) at) ≡ true) where
+  first-read : (b : BatchRow) × (n : ℕ) × (readRow s at ≡ got b n)
+  unfolding readRows
+  first-read = after-read (readRow s at) _ t
+
+  pub row-is-read : isRead (readRow s at) ≡ true
+  row-is-read = rw (first-read .2)
+
+  pub rest-read : (b : BatchRow) (next : ℕ) → readRow s at ≡ got b next
+      → (isRead (readRows s m next) ≡ true) × (rowsIn (readRows s (suc m) at) ≡ b ∷ rowsIn (readRows s m next))
+  unfolding readRows
+  rest-read b next e =
+      let q : readRows s (suc m) at ≡ after (readRows s m next) (λ bs n. got (b ∷ bs) n) = rw e in
+      rw q (and-rest b (readRows s m next) (rw q at t))
+
+length-in : (s : List ℕ) (n at : ℕ) → isRead (readRows s n at) ≡ true → length (rowsIn (readRows s n at)) ≡ n
+unfolding readRows
+length-in s zero at t = refl
+length-in s (suc n) at t =
+    let f = first-read s n at t in
+    let r : (isRead (readRows s n (f .1)) ≡ true) × (rowsIn (readRows s (suc n) at) ≡ (f .0) ∷ rowsIn (readRows s n (f .1))) = rest-read s n at t (f .0) (f .1) (f .2) in
+    ap length (r .1) ∙ ap suc (length-in s n (f .1) (r .0))
+
+-- ---- admission: left working rows, after i rows of the batch, the next of which starts at `at`
+pub record Entering (c : List (ℕ × ℕ)) (held batch s₀ : List ℕ) (n first rows : ℕ) (s : List ℕ) (left duplicates at i : ℕ) : Type 0 where
+  pub same : length s ≡ length s₀
+  pub turn : i ≤ rows
+  pub total : left + duplicates ≡ n + i
+  pub few : n ≤ 64
+  pub rows-few : rows ≤ 64
+  pub room : 16 * (n + rows) ≤ length s₀
+  pub refs : refsOk held batch (cells s 0 left) ≡ true
+  pub read : isRead (readRows batch (rows - i) at) ≡ true
+  pub whole : (time : ℕ) → admitAll c time (admitted held batch time (cells s 0 left) duplicates) (rowsIn (readRows batch (rows - i) at))
+      ≡ admitAll c time (admitted held batch time (cells s₀ 0 n) 0) (rowsIn (readRows batch rows first))
+
+pub entering-start : (c : List (ℕ × ℕ)) (held batch s : List ℕ) (n first rows : ℕ) → Working held batch s n → isRead (readRows batch rows first) ≡ true
+    → n ≤ 64 → rows ≤ 64 → 16 * (n + rows) ≤ length s → Entering c held batch s n first rows s n 0 first 0
+entering-start c held batch s n first rows w t f g h =
+    let e : rows - 0 ≡ rows = omega arith in
+    record {
+      same = refl;
+      turn = omega arith;
+      total = omega arith;
+      few = f;
+      rows-few = g;
+      room = h;
+      refs = w .refs;
+      read = rw e t;
+      whole = λ time. rw e;
+    }
+
+module _ {c : List (ℕ × ℕ)} {held batch s₀ : List ℕ} {n first rows : ℕ} {s : List ℕ} {left duplicates at i : ℕ}
+    (g : Entering c held batch s₀ n first rows s left duplicates at i) (all : isRead (readRows batch rows first) ≡ true) where
+  in-all : (bs : List BatchRow) (end : ℕ) → readRows batch rows first ≡ got bs end → rowsIn (readRows batch rows first) ≡ bs
+  in-all bs end e = rw e
+
+  pub entering-end : rows ≤ i → (time : ℕ) (bs : List BatchRow) (end : ℕ) → readRows batch rows first ≡ got bs end
+      → AdmitsAll c held batch time s₀ s n bs (Entered left duplicates)
+  unfolding admitAll readRows
+  entering-end h time bs end e =
+      let z : rows - i ≡ 0 = omega (arith, g .turn) in
+      let l : length bs ≡ rows = ap length (sym (in-all bs end e)) ∙ length-in batch rows first all in
+      record {
+        answer = rw z at (g .whole time) ∙ ap (λ (l : List BatchRow). admitAll c time (admitted held batch time (cells s₀ 0 n) 0) l) (in-all bs end e);
+        refs = (record { room = omega (arith, g .room, g .total, g .turn, g .same); refs = g .refs }, omega (arith, g .total, g .turn));
+      }
+
+  module _ (h : i < rows) where
+    one : rows - i ≡ suc (rows - (i + 1))
+    one = omega arith
+
+    read-one : isRead (readRows batch (suc (rows - (i + 1))) at) ≡ true
+    read-one = rw one at (g .read)
+
+    pub needs-one : Working held batch s left × (isRead (readRow batch at) ≡ true) × (16 * left + 16 ≤ length s)
+    needs-one = (
+      record { room = omega (arith, g .room, g .total, g .same); refs = g .refs },
+      row-is-read batch (rows - (i + 1)) at read-one,
+      omega (arith, g .room, g .total, g .same),
+    )
+
+    unrolled : (time : ℕ) (b : BatchRow) (next : ℕ) → readRow batch at ≡ got b next
+        → andThen (admit c time (admitted held batch time (cells s 0 left) duplicates) b) (λ a. admitAll c time a (rowsIn (readRows batch (rows - (i + 1)) next)))
+        ≡ admitAll c time (admitted held batch time (cells s₀ 0 n) 0) (rowsIn (readRows batch rows first))
+    unfolding admitAll
+    unrolled time b next e =
+        let r : rowsIn (readRows batch (rows - i) at) ≡ b ∷ rowsIn (readRows batch (rows - (i + 1)) next) =
+        rw one (rest-read batch (rows - (i + 1)) at read-one b next e .1) in
+        rw r at (g .whole time)
+
+    pub entering-duplicate : (t : List ℕ) (next : ℕ) → Admits c held batch s t left at (answer.Duplicate next)
+        → Entering c held batch s₀ n first rows t left (duplicates + 1) next (i + 1)
+    entering-duplicate t next (is-duplicate b e f q) = record {
+      same = ap length q ∙ g .same;
+      turn = omega arith;
+      total = omega (arith, g .total);
+      few = g .few;
+      rows-few = g .rows-few;
+      room = g .room;
+      refs = rw q (g .refs);
+      read = rest-read batch (rows - (i + 1)) at read-one b next e .0;
+      whole = λ time. rw q (rw (f time duplicates) at (unrolled time b next e));
+    }
+
+    pub entering-entered : (t : List ℕ) (next : ℕ) → length t ≡ length s → Admits c held batch s t left at (answer.Entered next)
+        → Entering c held batch s₀ n first rows t (left + 1) duplicates next (i + 1)
+    entering-entered t next len (is-entered b e f r) = record {
+      same = len ∙ g .same;
+      turn = omega arith;
+      total = omega (arith, g .total);
+      few = g .few;
+      rows-few = g .rows-few;
+      room = g .room;
+      refs = r;
+      read = rest-read batch (rows - (i + 1)) at read-one b next e .0;
+      whole = λ time. rw (f time duplicates) at (unrolled time b next e);
+    }
+
+    pub entering-conflict : (t : List ℕ) (author seq : ℕ) → Admits c held batch s t left at (answer.Conflict author seq)
+        → (time : ℕ) (bs : List BatchRow) (end : ℕ) → readRows batch rows first ≡ got bs end
+        → AdmitsAll c held batch time s₀ t n bs (Refused (refusal.Conflict (record { 0 = author }) seq))
+    entering-conflict t author seq (is-conflict b next e f) time bs end q = record {
+      answer = rw (f time duplicates) at (unrolled time b next e) ∙ ap (λ (l : List BatchRow). admitAll c time (admitted held batch time (cells s₀ 0 n) 0) l) (in-all bs end q);
+      refs = omega arith;
+    }
+
+pub answered : {c : List (ℕ × ℕ)} {held batch s t : List ℕ} {n at : ℕ} {a b : Admit} → a ≡ b → Admits c held batch s t n at a → Admits c held batch s t n at b
+answered e v = rw e at v
+
+-- the clock that admission goes by, told otherwise
+pub admits-by : {c es : List (ℕ × ℕ)} {held batch s t : List ℕ} {time n : ℕ} {bs : List BatchRow} {r : Admitting} → c ≡ es
+    → AdmitsAll c held batch time s t n bs r → AdmitsAll es held batch time s t n bs r
+admits-by e d = rw e at d
+
+-- ---- expiry: n references stand for the rows that did not expire among the first i
+pub record Lasting (held s : List ℕ) (count cutoff n i : ℕ) : Type 0 where
+  pub turn : i ≤ count
+  pub few : n ≤ i
+  pub refs : (batch : List ℕ) → Refs held batch (cells s 0 n)
+  pub whole : (batch : List ℕ) (time : ℕ) → workRows held batch time (cells s 0 n) ++ unexpired cutoff (slotsAt held (704 * i) (count - i)) ≡ unexpired cutoff (slotsAt held 0 count)
+
+pub lasting-start : (held s : List ℕ) (count cutoff : ℕ) → Lasting held s count cutoff 0 0
+unfolding cells workRows
+lasting-start held s count cutoff =
+    let e : count - 0 ≡ count = omega arith in
+    record { turn = omega arith; few = omega arith; refs = λ batch. none; whole = λ batch time. rw e }
+
+slots-next : (held : List ℕ) (count i : ℕ) → i < count
+    → slotsAt held (704 * i) (count - i) ≡ decodeHeld (slotAt held (704 * i)) ∷ slotsAt held (704 * (i + 1)) (count - (i + 1))
+unfolding slotsAt
+slots-next held count i h =
+    let e : count - i ≡ suc (count - (i + 1)) = omega arith in
+    let f : 704 * (i + 1) ≡ 704 * i + 704 = omega arith in
+    rw (e, f)
+
+length-slots : (held : List ℕ) (at n : ℕ) → length (slotsAt held at n) ≡ n
+unfolding slotsAt
+length-slots held at zero = refl
+length-slots held at (suc n) = ap suc (length-slots held (at + 704) n)
+
+module _ {held s : List ℕ} {count cutoff n i : ℕ} (g : Lasting held s count cutoff n i) where
+  pub lasting-end : count ≤ i → 16 * count ≤ length s → (batch : List ℕ) (time : ℕ) → Unexpired held batch time cutoff (slotsAt held 0 count) s n
+  unfolding slotsAt unexpired
+  lasting-end h r batch time =
+      let z : count - i ≡ 0 = omega (arith, g .turn) in
+      record {
+        rows-are = sym (append-nil (workRows held batch time (cells s 0 n))) ∙ rw z at (g .whole batch time);
+        working = record { room = omega (arith, g .few, g .turn); refs = of-refs (g .refs batch) };
+        few = omega (arith, g .few, g .turn, length-slots held 0 count);
+      }
+
+  module _ (h : i < count) (arrived : ℕ) (ea : arrived ≡ get64 held (704 * i + 64)) where
+    arrival-is : decodeHeld (slotAt held (704 * i)) .arrival ≡ arrived
+    unfolding decodeHeld
+    arrival-is = word-part held (704 * i) 704 64 (omega arith) ∙ sym ea
+
+    first : (b : Bool) → leb cutoff arrived ≡ b → unexpired cutoff (slotsAt held (704 * i) (count - i))
+        ≡ expireBy b (decodeHeld (slotAt held (704 * i))) (unexpired cutoff (slotsAt held (704 * (i + 1)) (count - (i + 1))))
+    unfolding unexpired
+    first b e = rw (slots-next held count i h, arrival-is, e)
+
+    pub lasting-past : arrived < cutoff → Lasting held s count cutoff n (i + 1)
+    unfolding expireBy
+    lasting-past l = record {
+      turn = omega arith;
+      few = omega (arith, g .few);
+      refs = g .refs;
+      whole = λ batch time. rw (first false (lt-leb cutoff arrived l)) at (g .whole batch time);
+    }
+
+    module _ (t : List ℕ) (w : Written s t (16 * n) i) where
+      kept : cells t 0 (n + 1) ≡ cells s 0 n ++ (i ∷ [])
+      kept =
+          let a : cells t 0 n ≡ cells s 0 n = cells-keep s t 0 n (λ x l. w .else (0 + 16 * x) (inl (omega arith))) in
+          let f : get64 t (0 + 16 * n) ≡ i = ap (get64 t) (omega arith) ∙ w .here in
+          rw (cells-more t 0 n, a, f)
+
+      pub lasting-kept : cutoff ≤ arrived → i < 64 → slotOk (slotAt held (704 * i)) ≡ true → Lasting held t count cutoff (n + 1) (i + 1)
+      unfolding expireBy
+      lasting-kept l f o = record {
+        turn = omega arith;
+        few = omega (arith, g .few);
+        refs = λ batch. rw kept (refs-snoc (g .refs batch) i (held-ok held batch i f o));
+        whole = λ batch time.
+            rw (kept, rows-snoc held batch time (cells s 0 n) i, append-assoc (workRows held batch time (cells s 0 n)), work-held held batch i time f)
+            (rw (first true (le-leb cutoff arrived l)) at (g .whole batch time));
+      }

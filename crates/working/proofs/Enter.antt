@@ -1,0 +1,249 @@
+-- Where a row of the batch goes, and what becomes of it. Assumes nothing.
+use Prim.Native.Nat.{ℕ, suc, _+_, _-_, _*_, _≤_, _<_}
+use mathlib.Core.Path.{_≡_, refl, sym, _∙_, ap}
+use mathlib.Core.Bool.{Bool, true, false}
+use mathlib.Core.List.{List, [], _∷_}
+use native.Mathlib.Omega.{arith}
+use lib.Dec.{leb}
+use lib.ListN.{length, getD}
+use borrow.Author.Tests.{le-leb, lt-leb}
+use Rattle.words.specs.Be.{get64}
+use Rattle.words.specs.Choice.{pick}
+use Rattle.error.specs.declared.Refusal.{Refusal}
+use Rattle.error.specs.declared.Refusal.the-variants as refusal
+use Rattle.error.specs.Answer.{Answer, done, unless, Got, got, bad}
+use Rattle.codec.specs.Reading.{getVarint}
+use Rattle.codec.proofs.Laws.{ReadVarint, varint-read}
+use Rattle.clock.specs.Entries.{get}
+use Rattle.row.specs.Rows.{Row, HeldRow, workLess}
+use Rattle.row.specs.Reading.{BatchRow, number, unreadable, readHead, readRow}
+use Rattle.row.specs.Views.{rowOf, rowReadBy, OpFits}
+use Rattle.row.specs.Calls.{ReadsRow}
+use Rattle.row.specs.declared.Reading.{Reading}
+use Rattle.row.specs.declared.Reading.the-variants as ended
+use Rattle.row.specs.declared.RowRead.{RowRead}
+use Rattle.log.specs.Store.{sameId}
+use Rattle.merging.specs.Merging.{sameContent, Known, absent, present, lookBy, look, enterBy, enter, arrived, Admitted, duplicate, whenKnown, admit}
+use Rattle.working.specs.Refs.{isRead, arrivedBy, refOk, refsOk, workRow, workRows, cells}
+use Rattle.working.specs.Columns.{insAt, PutIn}
+use Rattle.working.specs.Looks.{refRow, batchRowAt, KeyOf, idRef, beforeRef, later, firstBy, firstWhere, placeIn}
+use Rattle.working.specs.Entry.{admitted, Puts, Admits}
+use Rattle.working.specs.Entry.Admits.{is-duplicate, is-conflict, is-entered}
+use Rattle.working.specs.declared.looks.Key.{Key}
+use Rattle.working.specs.declared.looks.Found.{Found}
+use Rattle.working.specs.declared.looks.Found.the-variants.{At, Nothing}
+use Rattle.working.specs.declared.entering.Admit.the-variants as answer
+use Rattle.working.proofs.Cells.{length-cells, cells-at, refs-of, of-refs, refs-ins}
+use Rattle.working.proofs.Rows.{row-time, work-batch, row-batch, batch-ok, after-read}
+use Rattle.working.proofs.Same.{key-numbers}
+use Rattle.working.proofs.Searching.{found-below}
+
+-- ---- a row that was read from the batch
+abbrev pub readOf : List ℕ → RowRead → BatchRow
+readOf s r = record { row = rowOf s (r .op); closing = record { verdict = r .verdict; outcome = r .outcome; detail = r .detail } }
+
+module _ (s : List ℕ) (at : ℕ) (r : RowRead) (p : ReadsRow s at r) where
+  by : (x : Reading) → r .reading ≡ x → rowReadBy x s r ≡ readRow s at
+  by x e = rw (← e) (p .is)
+
+  pub read-got : (next : ℕ) → r .reading ≡ ended.Read next → readRow s at ≡ got (readOf s r) next
+  read-got next e = sym (by (ended.Read next) e)
+
+  pub read-not : (f : Refusal) → isRead (readRow s at) ≡ true → r .reading ≡ ended.Refused f → ⊥
+  read-not f t e =
+      let q : readRow s at ≡ bad f = sym (by (ended.Refused f) e) in
+      let u : isRead (readRow s at) ≡ false = rw q in
+      let z : _≡_ {A = ℕ} 0 1 = cc in
+      omega arith
+
+  ended-by : (x : Reading) → r .reading ≡ x → isRead (readRow s at) ≡ true → (next : ℕ) × (r .reading ≡ ended.Read next)
+  ended-by (ended.Read next) e t = (next, e)
+  ended-by (ended.Refused f) e t = absurd (read-not f t e)
+
+  -- the reading ended well
+  pub read-ended : isRead (readRow s at) ≡ true → (next : ℕ) × (r .reading ≡ ended.Read next)
+  read-ended t = ended-by (r .reading) refl t
+
+  pub read-row-at : isRead (readRow s at) ≡ true → rowOf s (r .op) ≡ batchRowAt s at
+  unfolding batchRowAt
+  read-row-at t = sym (ap (λ (g : Got BatchRow). arrivedBy 0 g .row) (read-got (read-ended t .0) (read-ended t .1)))
+
+  pub read-fits : isRead (readRow s at) ≡ true → OpFits s (r .op)
+  read-fits t = p .fits (read-ended t .0) (read-ended t .1)
+
+pub same-rows : (r s t : Row) (b : Bool) → r ≡ s → b ≡ sameContent r t → b ≡ sameContent s t
+same-rows r s t b p e = rw (← p) e
+
+-- a row that is read starts within the batch
+number-got : (s : List ℕ) (at v n : ℕ) (g : Got ℕ) → g ≡ getVarint s at → unreadable g ≡ got v n → at ≤ length s
+number-got s at v n (got w m) e q =
+    let r : ReadVarint s at w m = varint-read s at w m (sym e) in
+    omega arith
+number-got s at v n (bad f) e q = absurd (let z : _≡_ {A = ℕ} 0 1 = cc in omega arith)
+
+pub read-inside : (s : List ℕ) (at : ℕ) → isRead (readRow s at) ≡ true → at ≤ length s
+unfolding readRow readHead number
+read-inside s at t =
+    let h = after-read (readHead s at) _ t in
+    let k : isRead (readHead s at) ≡ true = rw (h .2) in
+    let n = after-read (number s at) _ k in
+    number-got s at (n .0) (n .1) (getVarint s at) refl (n .2)
+
+-- ---- the place among the working rows
+place-later : (n : ℕ) (f : Found) → placeIn (suc n) (later f) ≡ suc (placeIn n f)
+unfolding placeIn later
+place-later n (At i) = refl
+place-later n Nothing = refl
+
+place-by : (n : ℕ) (f : Found) (b : Bool) → placeIn n f ≤ n → placeIn (suc n) (firstBy b f) ≤ suc n
+unfolding placeIn firstBy
+place-by n f true h = omega arith
+place-by n f false h = rw (place-later n f) (omega arith)
+
+place-within : (p : ℕ → Bool) (ks : List ℕ) → placeIn (length ks) (firstWhere p ks) ≤ length ks
+unfolding placeIn firstWhere
+place-within p [] = omega arith
+place-within p (k ∷ ks) = place-by (length ks) (firstWhere p ks) (p k) (place-within p ks)
+
+pub place-below : (p : ℕ → Bool) (s : List ℕ) (n i : ℕ) → i ≡ placeIn n (firstWhere p (cells s 0 n)) → i ≤ n
+place-below p s n i e =
+    let l : length (cells s 0 n) ≡ n = length-cells s 0 n in
+    rw e (rw l at (place-within p (cells s 0 n)))
+
+-- what a place that was found means
+pub found-place : (n i : ℕ) (f : Found) → At i ≡ f → i ≡ placeIn n f
+unfolding placeIn
+found-place n i f e = rw (← e)
+
+pub none-place : (n : ℕ) (f : Found) → Nothing ≡ f → n ≡ placeIn n f
+unfolding placeIn
+none-place n f e = rw (← e)
+
+module _ (held batch : List ℕ) (time k : ℕ) (key : Key) (o : KeyOf (refRow held batch k) key) where
+  before-is : (x : ℕ) → workLess (workRow held batch time k .row) (workRow held batch time x .row) ≡ beforeRef key held batch x
+  unfolding workLess beforeRef
+  before-is x = rw (← row-time held batch k time, ← row-time held batch x time, key-numbers held batch k key o)
+
+  placed-by : (x : ℕ) (ks : List ℕ) (f : Found) (b : Bool) → beforeRef key held batch x ≡ b
+      → workRows held batch time (insAt (placeIn (length ks) f) k ks) ≡ enter (workRow held batch time k) (workRows held batch time ks)
+      → workRows held batch time (insAt (placeIn (suc (length ks)) (firstBy b f)) k (x ∷ ks)) ≡ enter (workRow held batch time k) (workRows held batch time (x ∷ ks))
+  unfolding firstBy workRows enter enterBy insAt placeIn
+  placed-by x ks f true e q = rw (before-is x, e)
+  placed-by x ks f false e q = rw (before-is x, e, place-later (length ks) f) (ap (λ (l : List HeldRow). workRow held batch time x ∷ l) q)
+
+  placed : (ks : List ℕ) → workRows held batch time (insAt (placeIn (length ks) (firstWhere (beforeRef key held batch) ks)) k ks)
+      ≡ enter (workRow held batch time k) (workRows held batch time ks)
+  unfolding firstWhere workRows enter insAt placeIn
+  placed [] = refl
+  placed (x ∷ ks) = placed-by x ks (firstWhere (beforeRef key held batch) ks) (beforeRef key held batch x) refl (placed ks)
+
+pub puts : (held batch s t : List ℕ) (n k i : ℕ) (key : Key) → KeyOf (refRow held batch k) key → refOk held batch k ≡ true → refsOk held batch (cells s 0 n) ≡ true
+    → i ≡ placeIn n (firstWhere (beforeRef key held batch) (cells s 0 n)) → PutIn s t n i k → Puts held batch s t n k
+puts held batch s t n k i key o ok r e p = record {
+  rows = λ time. rw (p, e) (rw (length-cells s 0 n) at (placed held batch time k key o (cells s 0 n)));
+  refs = rw p (of-refs (refs-ins (refs-of held batch (cells s 0 n) r) i k ok));
+}
+
+-- ---- what a search by author and sequence finds
+pub data Met (r : Row) (held batch : List ℕ) (time : ℕ) (ks : List ℕ) : Found → Type 0 where
+  met-at : {i : ℕ} → look r (workRows held batch time ks) ≡ present (workRow held batch time (getD ks i 0)) → Met r held batch time ks (At i)
+  met-none : look r (workRows held batch time ks) ≡ absent → Met r held batch time ks Nothing
+
+module _ (r : Row) (held batch : List ℕ) (time : ℕ) where
+  same-is : (k : ℕ) → sameId r (workRow held batch time k .row) ≡ idRef (r .author) (r .seq) held batch k
+  unfolding sameId idRef
+  same-is k = rw (← row-time held batch k time)
+
+  met-by : (k : ℕ) (ks : List ℕ) (f : Found) (b : Bool) → idRef (r .author) (r .seq) held batch k ≡ b → Met r held batch time ks f
+      → Met r held batch time (k ∷ ks) (firstBy b f)
+  unfolding firstBy later workRows look lookBy
+  met-by k ks f true e s = met-at {i = 0} (rw (same-is k, e))
+  met-by k ks (At i) false e (met-at q) = met-at {i = suc i} (rw (same-is k, e, q))
+  met-by k ks Nothing false e (met-none q) = met-none (rw (same-is k, e, q))
+
+  met : (ks : List ℕ) → Met r held batch time ks (firstWhere (idRef (r .author) (r .seq) held batch) ks)
+  unfolding firstWhere workRows look
+  met [] = met-none refl
+  met (k ∷ ks) = met-by k ks (firstWhere (idRef (r .author) (r .seq) held batch) ks) (idRef (r .author) (r .seq) held batch k) refl (met ks)
+
+  met-is : (ks : List ℕ) (f : Found) → f ≡ firstWhere (idRef (r .author) (r .seq) held batch) ks → Met r held batch time ks f
+  met-is ks f e = rw e (met ks)
+
+met-look : {r : Row} {held batch : List ℕ} {time i : ℕ} {ks : List ℕ} → Met r held batch time ks (At i)
+    → look r (workRows held batch time ks) ≡ present (workRow held batch time (getD ks i 0))
+met-look (met-at q) = q
+
+none-look : {r : Row} {held batch : List ℕ} {time : ℕ} {ks : List ℕ} → Met r held batch time ks Nothing → look r (workRows held batch time ks) ≡ absent
+none-look (met-none q) = q
+
+-- ---- the reference of a row that was read
+module _ (held batch : List ℕ) (at : ℕ) (r : RowRead) (p : ReadsRow batch at r) (next : ℕ) (er : r .reading ≡ ended.Read next) where
+  pub key-read : KeyOf (refRow held batch (64 + at)) (record { stamp = r .op .timestamp; author = r .op .actor .0; seq = r .op .seq })
+  unfolding rowOf
+  key-read =
+      let e : 64 + at - 64 ≡ at = omega arith in
+      let q : refRow held batch (64 + at) ≡ rowOf batch (r .op) =
+      row-batch held batch (64 + at) (omega arith) ∙ rw e (sym (read-row-at batch at r p (rw (read-got batch at r p next er)))) in
+      record { stamp = ap (λ (x : Row). x .stamp) (sym q); author = ap (λ (x : Row). x .author) (sym q); seq = ap (λ (x : Row). x .seq) (sym q) }
+
+  pub ref-read : refOk held batch (64 + at) ≡ true
+  ref-read =
+      let e : 64 + at - 64 ≡ at = omega arith in
+      batch-ok held batch (64 + at) (omega arith) (rw (e, read-got batch at r p next er))
+
+-- ---- the answers
+module _ (c : List (ℕ × ℕ)) (held batch s t : List ℕ) (n at : ℕ) (r : RowRead) (p : ReadsRow batch at r) (next : ℕ) (er : r .reading ≡ ended.Read next)
+    (have : ℕ) (eh : have ≡ get c (r .op .actor .0)) where
+  abbrev own : Row
+  own = rowOf batch (r .op)
+
+  abbrev Ans : ℕ → ℕ → Answer Admitted
+  Ans time dup = admit c time (admitted held batch time (cells s 0 n) dup) (readOf batch r)
+
+  tested : (time dup : ℕ) (b : Bool) → leb (r .op .seq) have ≡ b
+      → Ans time dup
+      ≡ pick b (done (duplicate (admitted held batch time (cells s 0 n) dup))) (whenKnown (look own (workRows held batch time (cells s 0 n))) time (readOf batch r) (admitted held batch time (cells s 0 n) dup))
+  unfolding admit rowOf
+  tested time dup b e = rw (← eh, e)
+
+  pub admit-old : r .op .seq ≤ have → t ≡ s → Admits c held batch s t n at (answer.Duplicate next)
+  admit-old h q = is-duplicate (readOf batch r) (read-got batch at r p next er) (λ time dup. tested time dup true (le-leb (r .op .seq) have h)) q
+
+  module _ (h : have < r .op .seq) where
+    known : (time dup : ℕ) (x : Known) → look own (workRows held batch time (cells s 0 n)) ≡ x
+        → Ans time dup ≡ whenKnown x time (readOf batch r) (admitted held batch time (cells s 0 n) dup)
+    known time dup x e = tested time dup false (lt-leb (r .op .seq) have h) ∙ rw e
+
+    module _ (j k : ℕ) (e : At j ≡ firstWhere (idRef (r .op .actor .0) (r .op .seq) held batch) (cells s 0 n)) (ek : k ≡ get64 s (16 * j))
+        (b : Bool) (eb : b ≡ sameContent (refRow held batch k) own) where
+      at-j : getD (cells s 0 n) j 0 ≡ k
+      at-j = cells-at s 0 n j (found-below (idRef (r .op .actor .0) (r .op .seq) held batch) s n j e) ∙ ap (get64 s) (omega arith) ∙ sym ek
+
+      told : (time dup : ℕ) → Ans time dup
+          ≡ unless b (refusal.Conflict (record { 0 = r .op .actor .0 }) (r .op .seq)) (done (duplicate (admitted held batch time (cells s 0 n) dup)))
+      unfolding whenKnown rowOf
+      told time dup =
+          known time dup (present (workRow held batch time k)) (rw at-j at (met-look (met-is own held batch time (cells s 0 n) (At j) e)))
+          ∙ rw (← row-time held batch k time, ← eb)
+
+      pub admit-same : b ≡ true → t ≡ s → Admits c held batch s t n at (answer.Duplicate next)
+      admit-same q z = is-duplicate (readOf batch r) (read-got batch at r p next er) (λ time dup. told time dup ∙ rw q) z
+
+      pub admit-other : b ≡ false → Admits c held batch s t n at (answer.Conflict (r .op .actor .0) (r .op .seq))
+      admit-other q = is-conflict {author = r .op .actor .0} {seq = r .op .seq} (readOf batch r) next (read-got batch at r p next er) (λ time dup. told time dup ∙ rw q)
+
+    pub admit-new : Nothing ≡ firstWhere (idRef (r .op .actor .0) (r .op .seq) held batch) (cells s 0 n) → Puts held batch s t n (64 + at)
+        → Admits c held batch s t n at (answer.Entered next)
+    unfolding whenKnown rowOf
+    admit-new e q = is-entered (readOf batch r) (read-got batch at r p next er) (λ time dup. new time dup) (q .refs)
+      where
+        arrives : (time : ℕ) → workRow held batch time (64 + at) ≡ arrived time (readOf batch r)
+        arrives time =
+            let f : 64 + at - 64 ≡ at = omega arith in
+            work-batch held batch (64 + at) time (omega arith) ∙ rw (f, read-got batch at r p next er)
+
+        new : (time dup : ℕ) → Ans time dup ≡ done (admitted held batch time (cells t 0 (n + 1)) dup)
+        new time dup =
+            known time dup absent (none-look (met-is own held batch time (cells s 0 n) Nothing e))
+            ∙ ap (λ (l : List HeldRow). done (record { working = l; duplicates = dup }))
+            (ap (λ (x : HeldRow). enter x (workRows held batch time (cells s 0 n))) (sym (arrives time)) ∙ sym (q .rows time))

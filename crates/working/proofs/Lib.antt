@@ -1,0 +1,9 @@
+pub mod Word
+pub mod Cells
+pub mod TwoRows
+pub mod Rows
+pub mod Searching
+pub mod Emptying
+pub mod Same
+pub mod Enter
+pub mod Batches

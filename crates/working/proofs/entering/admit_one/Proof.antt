@@ -1,0 +1,94 @@
+use Prim.Native.Nat.{_-_}
+use mathlib.Core.Path.{refl, sym, _∙_}
+use native.Mathlib.Omega.{arith}
+use Rattle.working.proofs.Cells.{refs-of, ref-there}
+use Rattle.working.proofs.Searching.{found-below}
+use Rattle.working.proofs.Enter.{read-not, read-inside, key-read, ref-read, admit-old, admit-same, admit-other, admit-new}
+use borrow.Author.Needs.{needs}
+use Rattle.working.proofs.entering.admit_one.Statement.{statement}
+use Rattle.working.proofs.entering.admit_one.Tie as tie
+
+read-row-requires : tie.Need-read-row-requires
+read-row-requires c κs = search needs
+
+enum-known-reading : tie.Need-enum-known-reading
+enum-known-reading c = search needs
+
+enum-told : tie.Need-enum-told
+enum-told c = search needs
+
+returns : tie.Need-returns
+returns c = absurd (read-not _ _ _ (c .before .before .read-row .ensures) _ (c .before .before .before .before .before .before .before .before .pre .1) (c .enum-told .given .1))
+
+clock-get-requires : tie.Need-clock-get-requires
+clock-get-requires c κs = search needs
+
+returns-2 : tie.Need-returns-2
+returns-2 c = admit-old _ _ _ _ _ _ _ _ (c .before .before .before .before .before .before .before .read-row .ensures) _ (c .before .before .before .before .before .reading .given .1) _ (c .before .clock-get .ensures) (c .if1 .taken) refl
+
+seek-requires : tie.Need-seek-requires
+seek-requires c κs = search needs
+
+enum-known-j : tie.Need-enum-known-j
+enum-known-j c = search needs
+
+enum-told-2 : tie.Need-enum-told-2
+enum-told-2 c = search needs
+
+add-enter : tie.Need-add-enter
+add-enter c = omega (arith, read-inside (c .before .before .before .before .before .before .before .before .before .before .before .before .before .before .before .before .before .before .before .args .batch .now) (c .before .before .before .before .before .before .before .before .before .before .before .before .before .before .before .before .before .before .before .args .at) (c .before .before .before .before .before .before .before .before .before .before .before .before .before .before .before .before .before .before .before .pre .1), c .before .before .before .before .before .before .before .before .before .before .before .before .before .before .before .before .before .before .before .good .1 .0 .1)
+
+enter-requires : tie.Need-enter-requires
+enter-requires c κs = (c .before .before .before .before .before .before .before .before .before .before .before .before .before .before .before .before .before .before .before .pre .0, ref-read _ _ _ _ (c .before .before .before .before .before .before .before .before .before .before .before .before .before .read-row .ensures) _ (c .before .before .before .before .before .before .before .before .before .before .before .reading .given .1), key-read _ _ _ _ (c .before .before .before .before .before .before .before .before .before .before .before .before .before .read-row .ensures) _ (c .before .before .before .before .before .before .before .before .before .before .before .reading .given .1), c .before .before .before .before .before .before .before .before .before .before .before .before .before .before .before .before .before .before .before .pre .3)
+
+same-length : tie.Need-same-length
+same-length c = search needs
+
+returns-3 : tie.Need-returns-3
+returns-3 c = admit-new _ _ _ _ _ _ _ _ (c .before .before .before .before .before .before .before .before .before .before .before .before .before .before .before .before .read-row .ensures) _ (c .before .before .before .before .before .before .before .before .before .before .before .before .before .before .reading .given .1) _ (c .before .before .before .before .before .before .before .before .before .before .clock-get .ensures) (c .before .before .before .before .before .before .before .before .before .if1 .left) (sym (c .before .before .before .before .before .enum-told2 .given .1) ∙ c .before .before .before .before .before .before .before .seek .ensures) (c .before .before .enter .ensures)
+
+mul-get-word : tie.Need-mul-get-word
+mul-get-word c = omega (arith, found-below _ _ _ _ (sym (c .before .before .j .given .1) ∙ c .before .before .before .before .seek .ensures), c .before .before .before .before .before .before .before .before .before .before .before .before .before .before .before .before .before .before .before .good .1 .1 .0 .1)
+
+get-word-requires : tie.Need-get-word-requires
+get-word-requires c κs = omega (arith, found-below _ _ _ _ (sym (c .before .before .j .given .1) ∙ c .before .before .before .before .seek .ensures))
+
+same-ref-requires : tie.Need-same-ref-requires
+same-ref-requires c κs = (ref-there _ _ _ _ _ _ (refs-of _ _ _ (c .before .before .before .before .before .before .before .before .before .before .before .before .before .before .before .before .before .before .before .before .pre .0 .refs)) (found-below _ _ _ _ (sym (c .before .before .before .j .given .1) ∙ c .before .before .before .before .before .seek .ensures)) (c .get-word .ensures), c .before .before .before .before .before .before .before .before .before .before .before .before .before .before .read-row .ensures .fits _ (c .before .before .before .before .before .before .before .before .before .before .before .before .reading .given .1))
+
+same-length-2 : tie.Need-same-length-2
+same-length-2 c = search needs
+
+returns-4 : tie.Need-returns-4
+returns-4 c = admit-same _ _ _ _ _ _ _ _ (c .before .before .before .before .before .before .before .before .before .before .before .before .before .before .before .before .read-row .ensures) _ (c .before .before .before .before .before .before .before .before .before .before .before .before .before .before .reading .given .1) _ (c .before .before .before .before .before .before .before .before .before .before .clock-get .ensures) (c .before .before .before .before .before .before .before .before .before .if1 .left) _ _ (sym (c .before .before .before .before .before .j .given .1) ∙ c .before .before .before .before .before .before .before .seek .ensures) (c .before .before .get-word .ensures) _ (c .before .same-ref .ensures) (c .if2 .taken) refl
+
+same-length-3 : tie.Need-same-length-3
+same-length-3 c = search needs
+
+returns-5 : tie.Need-returns-5
+returns-5 c = admit-other _ _ _ _ _ _ _ _ (c .before .before .before .before .before .before .before .before .before .before .before .before .before .before .before .before .read-row .ensures) _ (c .before .before .before .before .before .before .before .before .before .before .before .before .before .before .reading .given .1) _ (c .before .before .before .before .before .before .before .before .before .before .clock-get .ensures) (c .before .before .before .before .before .before .before .before .before .if1 .left) _ _ (sym (c .before .before .before .before .before .j .given .1) ∙ c .before .before .before .before .before .before .before .seek .ensures) (c .before .before .get-word .ensures) _ (c .before .same-ref .ensures) (c .if2 .left)
+
+pub admit-one-spec : {M : Type 1} → statement M
+admit-one-spec =
+    tie.close
+    (tie.spec
+    read-row-requires
+    enum-known-reading
+    enum-told
+    returns
+    clock-get-requires
+    returns-2
+    seek-requires
+    enum-known-j
+    enum-told-2
+    add-enter
+    enter-requires
+    same-length
+    returns-3
+    mul-get-word
+    get-word-requires
+    same-ref-requires
+    same-length-2
+    returns-4
+    same-length-3
+    returns-5)

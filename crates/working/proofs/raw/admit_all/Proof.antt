@@ -1,0 +1,42 @@
+use Prim.Native.Nat.{_-_}
+use Rattle.working.proofs.Batches.{admits-by}
+use borrow.Author.Needs.{needs}
+use Rattle.working.proofs.raw.admit_all.Statement.{statement}
+use Rattle.working.proofs.raw.admit_all.Tie as tie
+
+slice-aggregate-start-clock : tie.Need-slice-aggregate-start-clock
+slice-aggregate-start-clock c = search needs
+
+slice-aggregate-start-clock-2 : tie.Need-slice-aggregate-start-clock-2
+slice-aggregate-start-clock-2 c = search needs
+
+start-clock-requires : tie.Need-start-clock-requires
+start-clock-requires c κs = search needs
+
+slice-aggregate-admit-by : tie.Need-slice-aggregate-admit-by
+slice-aggregate-admit-by c = search needs
+
+slice-aggregate-admit-by-2 : tie.Need-slice-aggregate-admit-by-2
+slice-aggregate-admit-by-2 c = search needs
+
+admit-by-requires : tie.Need-admit-by-requires
+admit-by-requires c κs = search needs
+
+same-length : tie.Need-same-length
+same-length c = search needs
+
+returns : tie.Need-returns
+returns c = λ time bs end e. admits-by (c .before .before .before .before .before .before .before .before .start-clock .ensures .0) (c .before .before .admit-by .ensures time bs end e)
+
+pub admit-all-spec : {M : Type 1} → statement M
+admit-all-spec =
+    tie.close
+    (tie.spec
+    slice-aggregate-start-clock
+    slice-aggregate-start-clock-2
+    start-clock-requires
+    slice-aggregate-admit-by
+    slice-aggregate-admit-by-2
+    admit-by-requires
+    same-length
+    returns)

@@ -1,0 +1,36 @@
+-- What became of one row of the batch; no sentence of document 01. Assumes nothing.
+use Prim.Native.Nat.{ℕ, _+_}
+use mathlib.Core.Path.{_≡_}
+use mathlib.Core.Bool.{true}
+use mathlib.Core.List.{List}
+use Rattle.error.specs.declared.Refusal.the-variants as refusal
+use Rattle.error.specs.Answer.{done, refused, got}
+use Rattle.row.specs.Reading.{BatchRow, readRow}
+use Rattle.merging.specs.Merging.{Admitted, admit, enter}
+use Rattle.working.specs.Refs.{refsOk, workRow, workRows, cells}
+use Rattle.working.specs.declared.entering.Admit.{Admit}
+use Rattle.working.specs.declared.entering.Admit.the-variants.{Duplicate, Conflict, Entered}
+
+-- the working rows of references, after so many duplicates
+abbrev pub admitted : List ℕ → List ℕ → ℕ → List ℕ → ℕ → Admitted
+admitted held batch time ks duplicates = record { working = workRows held batch time ks; duplicates = duplicates }
+
+-- the reference k put in where its row goes
+pub record Puts (held batch s t : List ℕ) (n k : ℕ) : Type 0 where
+  pub rows : (time : ℕ) → workRows held batch time (cells t 0 (n + 1)) ≡ enter (workRow held batch time k) (workRows held batch time (cells s 0 n))
+  pub refs : refsOk held batch (cells t 0 (n + 1)) ≡ true
+
+-- the row at `at`, which ends at `next`
+pub data Admits (clock : List (ℕ × ℕ)) (held batch s t : List ℕ) (n at : ℕ) : Admit → Type 0 where
+  is-duplicate : {next : ℕ} (b : BatchRow) → readRow batch at ≡ got b next
+      → ((time duplicates : ℕ)
+      → admit clock time (admitted held batch time (cells s 0 n) duplicates) b ≡ done (admitted held batch time (cells s 0 n) (duplicates + 1)))
+      → t ≡ s → Admits clock held batch s t n at (Duplicate next)
+  is-conflict : {author seq : ℕ} (b : BatchRow) (next : ℕ) → readRow batch at ≡ got b next
+      → ((time duplicates : ℕ)
+      → admit clock time (admitted held batch time (cells s 0 n) duplicates) b ≡ refused (refusal.Conflict (record { 0 = author }) seq))
+      → Admits clock held batch s t n at (Conflict author seq)
+  is-entered : {next : ℕ} (b : BatchRow) → readRow batch at ≡ got b next
+      → ((time duplicates : ℕ)
+      → admit clock time (admitted held batch time (cells s 0 n) duplicates) b ≡ done (admitted held batch time (cells t 0 (n + 1)) duplicates))
+      → refsOk held batch (cells t 0 (n + 1)) ≡ true → Admits clock held batch s t n at (Entered next)
