@@ -50,7 +50,7 @@ fn greater(a: u64, b: u64) -> u64
 }
 
 // The sum, or the greatest number where it does not fit.
-fn saturating_add(a: u64, b: u64) -> u64
+pub fn saturating_add(a: u64, b: u64) -> u64
     ensures { λ r. ⌜ r ≡ saturating a b ⌝ }
 {
     if b > 18446744073709551615 - a {

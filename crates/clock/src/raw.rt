@@ -110,7 +110,7 @@ pub(crate) fn entered(c: VectorClock, a: u64, n: u64) -> Changed
 }
 
 // An author's number raised to at least seq; refused where that is an author too many.
-pub(crate) fn observed(c: VectorClock, actor: ActorId, seq: u64) -> Changed
+pub fn observed(c: VectorClock, actor: ActorId, seq: u64) -> Changed
     requires { ⌜ sound c ≡ true ⌝ }
     ensures { λ r. ⌜ changedOf r ≡ grown c (observe (entries c) (actor .0) seq) unit ⌝ }
 {
