@@ -4,7 +4,7 @@
 -- "A call list is any list of batch calls and floor settings on one store, refused ones included"           Call; the lists cs₁ and cs₂
 -- "It starts from an empty store: no row logged or held, no number in the clock, no watermark"              Empty a₁, Empty a₂; any floor
 -- "Each call gets the store as the last one returned or left it, and nothing else writes that store"        runCalls, by batchCall and setFloorCall
--- "batch, settings, time, floor and the other areas are any at all"                                         AllGiven, Lent: bytes are bytes, the time
+-- "batch, settings, time, floor and the other areas are any at all"                                         AllGiven: a batch's bytes are bytes, the time
 --                                                                                                           and a stamp's numbers fit their widths
 -- "A row is offered to a store when an accepted batch of its list holds it"                                 offered a₁ cs₁, offered a₂ cs₂
 -- "Content is what step 2 compares; equal author, sequence and content make one row"                        equality of rows: one-row in Contents
@@ -39,7 +39,7 @@ reached a cs given empty =
     (record { store = empty .store; holds = empty .holds; run = Run.start (empty .log) (empty .held) (empty .clock) })
 
 pub convergence : Demand3
-convergence a₁ a₂ cs₁ cs₂ lent₁ lent₂ given₁ given₂ empty₁ empty₂ one spans₁ spans₂ =
+convergence a₁ a₂ cs₁ cs₂ given₁ given₂ empty₁ empty₂ one spans₁ spans₂ =
     let r₁ = reached a₁ cs₁ given₁ empty₁ in
     let r₂ = reached a₂ cs₂ given₂ empty₂ in
     let g₁ = good (r₁ .run) (one-part (λ y m. Memᴰ·append-left (offered a₂ cs₂) m) one) spans₁ in

@@ -50,12 +50,6 @@ pub record Empty (a : Areas) : Type 0 where
   pub clock : store .clock ≡ []
   pub marks : store .marks ≡ []
 
--- the bytes of the areas are bytes
-pub record Lent (a : Areas) : Type 0 where
-  pub log : Bytes (a .log)
-  pub held : Bytes (a .held)
-  pub head : Bytes (a .head)
-
 -- ---- offers
 
 unfoldable pub batchRows : List BatchRow → List Row
@@ -172,6 +166,6 @@ pub record Converges (a₁ a₂ : Areas) (cs₁ cs₂ : List Call) : Type 0 wher
 -- the statement: two lists of calls from two empty stores, with fair offers, converge
 abbrev pub Demand3 : Type 0
 Demand3 =
-    (a₁ a₂ : Areas) (cs₁ cs₂ : List Call) → Lent a₁ → Lent a₂ → AllGiven cs₁ → AllGiven cs₂ → Empty a₁ → Empty a₂
+    (a₁ a₂ : Areas) (cs₁ cs₂ : List Call) → AllGiven cs₁ → AllGiven cs₂ → Empty a₁ → Empty a₂
     → OneContent (offered a₁ cs₁ ++ offered a₂ cs₂) → Spans (accepted a₁ cs₁) → Spans (accepted a₂ cs₂)
     → Converges a₁ a₂ cs₁ cs₂
