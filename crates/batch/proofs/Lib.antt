@@ -1,0 +1,2 @@
+pub mod Validating
+pub mod Counting

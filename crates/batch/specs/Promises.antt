@@ -1,0 +1,49 @@
+-- What reading a batch promises, by the definitions of merging. Assumes nothing.
+use Prim.Native.Nat.{ℕ, _≤_}
+use mathlib.Core.Path.{_≡_}
+use mathlib.Core.List.{List}
+use lib.ListN.{length}
+use Rattle.error.specs.Answer.{Answer, done, refused, andThen, Unit, got}
+use Rattle.clock.specs.Vector.{outcomeOf}
+use Rattle.row.specs.declared.StampedOperation.{StampedOperation}
+use Rattle.row.specs.declared.Reading.{Reading}
+use Rattle.row.specs.declared.Reading.the-variants.{Read, Refused}
+use Rattle.row.specs.Views.{rowOf, OpFits}
+use Rattle.row.specs.Reading.{Closing, BatchRow}
+use Rattle.merging.specs.Batch.{Limits, whole, readRows, readBatch, validate, validateAll}
+use Rattle.batch.specs.declared.BatchRead.{BatchRead}
+
+-- the tests 5 to 12 of a row, wherever its payload and signature stand
+pub record Validates (l : Limits) (time : ℕ) (op : StampedOperation) (verdict : ℕ) (answer : Answer Unit) : Type 0 where
+  pub is : (src : List ℕ) (c : Closing) → OpFits src op → c .verdict ≡ verdict → answer ≡ validate l time (record { row = rowOf src op; closing = c })
+
+-- the same behind what the rows before it came to
+pub record GoesOn (before : Answer Unit) (l : Limits) (time : ℕ) (op : StampedOperation) (verdict : ℕ) (answer : Answer Unit) : Type 0 where
+  pub is : (src : List ℕ) (c : Closing) → OpFits src op → c .verdict ≡ verdict
+      → answer ≡ andThen before (λ u. validate l time (record { row = rowOf src op; closing = c }))
+
+-- n rows from `first` on that were read, and what their validation comes to
+pub record Brings (s : List ℕ) (l : Limits) (time first n : ℕ) (valid : Answer Unit) : Type 0 where
+  pub rows : List BatchRow
+  pub end : ℕ
+  pub from : readRows s n first ≡ got rows end
+  pub batch : whole s (readRows s n first) ≡ done rows
+  pub counted : length rows ≡ n
+  pub few : n ≤ 64
+  pub valid-is : valid ≡ validateAll l time rows
+
+-- so many rows and then nothing, or the refusal
+abbrev pub RowsBy : Reading → List ℕ → ℕ → ℕ → Limits → ℕ → BatchRead → Type 0
+RowsBy (Read from) s first n l time r = (from ≡ first) × (r .rows ≡ n) × Brings s l time first n (outcomeOf (r .valid))
+RowsBy (Refused f) s first n l time r = whole s (readRows s n first) ≡ refused f
+
+pub record ReadsRows (s : List ℕ) (first n : ℕ) (l : Limits) (time : ℕ) (r : BatchRead) : Type 0 where
+  pub is : RowsBy (r .reading) s first n l time r
+
+-- the whole batch, or the refusal
+abbrev pub BatchBy : Reading → List ℕ → Limits → ℕ → BatchRead → Type 0
+BatchBy (Read first) s l time r = Brings s l time first (r .rows) (outcomeOf (r .valid)) × (readBatch s ≡ whole s (readRows s (r .rows) first))
+BatchBy (Refused f) s l time r = readBatch s ≡ refused f
+
+pub record ReadsBatch (s : List ℕ) (l : Limits) (time : ℕ) (r : BatchRead) : Type 0 where
+  pub is : BatchBy (r .reading) s l time r

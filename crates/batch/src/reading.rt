@@ -1,0 +1,87 @@
+// The rows of a batch, read in one pass: 3 and 4 by the first fault in reading; each row's validation beside it.
+use crate::BatchRead;
+use crate::MergeLimits;
+use crate::limits::validated;
+use clock::vector::Outcome;
+use codec::NumberRead;
+use codec::get_varint;
+use error::Refusal;
+use row::Reading;
+use row::reader::read_row;
+ghost use mathlib.Core.Path.{_≡_};
+ghost use Prim.Native.Nat.{_≤_};
+ghost use Rattle.merging.specs.Batch.{limitsOk};
+ghost use Rattle.batch.specs.Views.{limitsOf};
+ghost use Rattle.batch.specs.Promises.{ReadsRows, ReadsBatch};
+
+// Whether the settings are within the closing list.
+pub fn are_within(limits: MergeLimits) -> bool
+    ensures { λ r. ⌜ r ≡ limitsOk (limitsOf limits) ⌝ }
+{
+    if limits.max_pending > 64 {
+        return false;
+    }
+    if limits.max_deps > 16 {
+        return false;
+    }
+    limits.max_payload <= 256
+}
+
+// A batch that is refused.
+fn no_batch(r: Refusal) -> BatchRead
+    ensures { λ b. ⌜ b .reading ≡ Reading.Refused r ⌝ }
+{
+    BatchRead {
+        reading: Reading::Refused(r),
+        rows: 0,
+        valid: Outcome::Done,
+    }
+}
+
+// So many rows from `first` on, and then nothing.
+fn read_rows(s: &[u8], first: usize, rows: usize, limits: MergeLimits, time: u64) -> BatchRead
+    requires { ⌜ rows ≤ 64 ⌝ }
+    ensures { λ r. ⌜ ReadsRows (now (s .entry)) first rows (limitsOf limits) time r ⌝ }
+{
+    let mut valid = Outcome::Done;
+    let mut at = first;
+    let mut i: usize = 0;
+    while i < rows {
+        let row = read_row(s, at);
+        let reading = row.reading;
+        match reading {
+            Reading::Refused(r) => return no_batch(r),
+            Reading::Read(next) => {
+                valid = validated(valid, limits, time, row.op, row.verdict);
+                at = next;
+                i += 1;
+                continue;
+            }
+        }
+    }
+    if at != s.len() {
+        return no_batch(Refusal::Unreadable);
+    }
+    BatchRead {
+        reading: Reading::Read(first),
+        rows: rows,
+        valid: valid,
+    }
+}
+
+// A count of at most 64, as many rows, and then nothing.
+pub fn read_batch(s: &[u8], limits: MergeLimits, time: u64) -> BatchRead
+    ensures { λ r. ⌜ ReadsBatch (now (s .entry)) (limitsOf limits) time r ⌝ }
+{
+    let NumberRead::Value {
+        value: count,
+        next: first,
+    } = get_varint(s, 0)
+    else {
+        return no_batch(Refusal::Unreadable);
+    };
+    if count > 64 {
+        return no_batch(Refusal::OverCapacity);
+    }
+    read_rows(s, first, count as usize, limits, time)
+}
