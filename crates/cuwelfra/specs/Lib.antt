@@ -3,3 +3,4 @@ pub mod Hybrids
 pub mod Vectors
 pub mod Stores
 pub mod Peers
+pub mod Batches

@@ -1,0 +1,118 @@
+-- What is refused before rows are merged, in document 01's order. Assumes nothing.
+use Prim.Native.Nat.{ℕ, _+_, _*_, _≤_}
+use mathlib.Core.Path.{_≡_, sym, _∙_, ap}
+use mathlib.Core.Bool.{true, false}
+use mathlib.Core.List.{List}
+use native.Mathlib.Omega.{arith}
+use lib.Dec.{leb}
+use lib.ListN.{length}
+use borrow.Author.Tests.{leb-true}
+use Rattle.words.specs.Be.{get64}
+use Rattle.error.specs.declared.Refusal.{Refusal}
+use Rattle.error.specs.declared.Refusal.the-variants.{OverCapacity, ShortArea}
+use Rattle.error.specs.Answer.{Answer, done, refused, Unit, unit}
+use Rattle.clock.proofs.Rising.{and-left, and-right}
+use Rattle.log.specs.Store.{Store}
+use Rattle.log.specs.Areas.{Areas, capacity, readStore, decodeStore}
+use Rattle.log.proofs.Asked.{Passed}
+use Rattle.merging.specs.Batch.{Limits, limitsOk, whole, readRows, readBatch, validateAll}
+use Rattle.merging.specs.Merging.{merge}
+use Rattle.merging.specs.Calls.{roomFor, batchAnswer}
+use Rattle.row.specs.declared.Reading.the-variants as reading
+use Rattle.clock.specs.Vector.{outcomeOf}
+use Rattle.batch.specs.declared.BatchRead.{BatchRead}
+use Rattle.batch.specs.Promises.{Brings, ReadsBatch}
+use Rattle.merge.specs.Promises.{brought, TakesIn, Prepares}
+use Rattle.merge.specs.declared.deciding.Prepared.{Prepared}
+use Rattle.merge.specs.declared.deciding.Prepared.the-variants as prepared
+use Rattle.merge.proofs.Rising.{length-slots}
+
+-- ---- the batch
+
+module _ (l : Limits) (time held : ℕ) (batch scratch output : List ℕ) where
+  pub unread : (r : Refusal) → readBatch batch ≡ refused r → TakesIn l time held batch scratch output (prepared.Refused r)
+  unfolding brought
+  unread r e = TakesIn.is-refused {r = r} (λ cap s h. rw e)
+
+  module _ (first n : ℕ) (valid : Answer Unit) (b : Brings batch l time first n valid) (w : readBatch batch ≡ whole batch (readRows batch n first)) where
+    brings : readBatch batch ≡ done (b .rows)
+    brings = w ∙ b .batch
+
+    counted : (s : Store) → length (s .held) ≡ held → length (s .held) + length (b .rows) ≡ held + n
+    counted s h = omega (arith, b .counted)
+
+    pub no-room : roomFor (held + n) scratch output ≡ false → TakesIn l time held batch scratch output (prepared.Refused ShortArea)
+    unfolding brought
+    no-room f = TakesIn.is-refused {r = ShortArea} (λ cap s h. rw (brings, counted s h, f))
+
+    module _ (f : roomFor (held + n) scratch output ≡ true) where
+      pub invalid : (r : Refusal) → valid ≡ refused r → TakesIn l time held batch scratch output (prepared.Refused r)
+      unfolding brought merge
+      invalid r e =
+          let v : validateAll l time (b .rows) ≡ refused r = sym (b .valid-is) ∙ e in
+          TakesIn.is-refused {r = r} (λ cap s h. rw (brings, counted s h, f, v))
+
+      pub taken-in : valid ≡ done unit → TakesIn l time held batch scratch output (prepared.Ready first n held)
+      taken-in e =
+          TakesIn.is-ready
+          (record {
+            rows = b .rows;
+            end = b .end;
+            from = b .from;
+            brings = brings;
+            counted = b .counted;
+            few = b .few;
+            valid = sym (b .valid-is) ∙ e;
+          })
+          f
+
+-- how a reading ended
+pub read-by : (l : Limits) (time : ℕ) (batch : List ℕ) (r : BatchRead) (first : ℕ) → ReadsBatch batch l time r → r .reading ≡ reading.Read first
+    → Brings batch l time first (r .rows) (outcomeOf (r .valid)) × (readBatch batch ≡ whole batch (readRows batch (r .rows) first))
+read-by l time batch r first b e = rw e at (b .is)
+
+pub unread-by : (l : Limits) (time : ℕ) (batch : List ℕ) (r : BatchRead) (f : Refusal) → ReadsBatch batch l time r → r .reading ≡ reading.Refused f
+    → readBatch batch ≡ refused f
+unread-by l time batch r f b e = rw e at (b .is)
+
+-- the room in scratch that was tested
+pub room-scratch : (n : ℕ) (scratch output : List ℕ) → roomFor n scratch output ≡ true → 704 * n ≤ length scratch
+unfolding roomFor
+room-scratch n scratch output h = leb-true _ _ (and-right (leb (18 * n) (length output)) _ h)
+
+pub room-output : (n : ℕ) (scratch output : List ℕ) → roomFor n scratch output ≡ true → 18 * n ≤ length output
+unfolding roomFor
+room-output n scratch output h = leb-true _ _ (and-left (leb (18 * n) (length output)) _ h)
+
+-- ---- settings and store
+
+pub taken-by : {l : Limits} {time held : ℕ} {batch scratch output : List ℕ} {p q : Prepared} → p ≡ q → TakesIn l time held batch scratch output p
+    → TakesIn l time held batch scratch output q
+taken-by {l} {time} {held} {batch} {scratch} {output} e t = rw e at t
+
+module _ (a : Areas) (l : Limits) (time : ℕ) (batch scratch output : List ℕ) where
+  pub no-limits : limitsOk l ≡ false → Prepares a l time batch scratch output (prepared.Refused OverCapacity)
+  unfolding batchAnswer
+  no-limits h = Prepares.is-refused {r = OverCapacity} (rw h)
+
+  module _ (h : limitsOk l ≡ true) where
+    pub no-store : (r : Refusal) → readStore a ≡ refused r → Prepares a l time batch scratch output (prepared.Refused r)
+    unfolding batchAnswer
+    no-store r e = Prepares.is-refused {r = r} (rw (h, e))
+
+    answer-is : (s : Store) → readStore a ≡ done s → batchAnswer a l time batch scratch output ≡ brought (capacity (a .log)) l time s batch scratch output
+    unfolding batchAnswer brought
+    answer-is s e = rw (h, e)
+
+    module _ (p : Passed a) where
+      held-count : length (decodeStore a .held) ≡ get64 (a .head) 8
+      unfolding decodeStore
+      held-count = length-slots (a .held) 0 (get64 (a .head) 8)
+
+      pub prepared-by : (r : Prepared) → TakesIn l time (get64 (a .head) 8) batch scratch output r → Prepares a l time batch scratch output r
+      prepared-by (prepared.Ready first n held) (TakesIn.is-ready t f) =
+          Prepares.is-ready
+          (record { within = h; store = decodeStore a; reads = p .read; counts = sym held-count; taken = t; room = room-scratch _ scratch output f })
+          f
+      prepared-by (prepared.Refused r) (TakesIn.is-refused f) =
+          Prepares.is-refused (answer-is (decodeStore a) (p .read) ∙ f (capacity (a .log)) (decodeStore a) held-count)
