@@ -103,6 +103,19 @@ typedef struct {
     uint64_t verdict;
 } cuwelfra_op_told;
 
+/* What a batch call answers: rows logged and applied, stale or rejected, duplicates, rows held after it, held rows that
+   expired, ready rows that were not their author's next; all 0 when refused. */
+typedef struct {
+    cuwelfra_told told;
+    uint64_t applied;
+    uint64_t stale;
+    uint64_t rejected;
+    uint64_t duplicates;
+    uint64_t held;
+    uint64_t expired;
+    uint64_t dropped;
+} cuwelfra_merge_told;
+
 /* ---- Bytes */
 
 /* How many bytes the shortest varint of v has. */
@@ -228,6 +241,31 @@ cuwelfra_clock_number cuwelfra_calculate_delta(const uint8_t *log, size_t log_le
 cuwelfra_clock_number cuwelfra_chunk_ops(const uint8_t *log, size_t log_len, const uint8_t *held, size_t held_len,
                                          const uint8_t *head, size_t head_len, const uint8_t *peer, size_t peer_len,
                                          uint64_t max_per_chunk, uint64_t max_bytes, uint8_t *output, size_t output_len);
+
+/* ---- Merging
+   A batch is a varint count of at most 64, as many rows, and nothing behind. A row is written as cuwelfra_signed_op does;
+   three bytes follow: verdict (0 or 1), outcome (0 fits, 1 malformed, 2 unknown tag, 3 denied, 4 invalid) and detail (the
+   tag for 2, a text number for 4, else 0). */
+
+#define CUWELFRA_MAX_BATCH 64
+/* Bytes of output and of scratch for each held row and each row of the batch. */
+#define CUWELFRA_LINE_BYTES 18
+#define CUWELFRA_SCRATCH_BYTES 704
+
+/* Applies a batch. The eight numbers are the settings and the time in ms. For each logged row, in logging order, 18 bytes
+   go into output: author and sequence, big-endian, fate (0 applied, 1 stale, 2 to 5 rejected with outcomes 1 to 4), detail
+   (0 for fates 0 and 1). Later bytes stay. 4 for settings, 2 for the store, 1; 3 and 4 in reading; 2 for output and
+   scratch; 5 to 18. A refusal changes no byte but scratch's, which are zero after every call. */
+cuwelfra_merge_told cuwelfra_apply_remote_ops(uint64_t max_pending, uint64_t max_pending_per_actor,
+                                              uint64_t max_pending_bytes, uint64_t max_pending_age_ms,
+                                              uint64_t max_drift_ms, uint64_t max_deps, uint64_t max_payload,
+                                              uint64_t time_ms, uint8_t *log, size_t log_len, uint8_t *held,
+                                              size_t held_len, uint8_t *head, size_t head_len, const uint8_t *batch,
+                                              size_t batch_len, uint8_t *scratch, size_t scratch_len, uint8_t *output,
+                                              size_t output_len);
+/* Logged rows with stamps at or below the floor are stale. This raises it and never lowers it. */
+cuwelfra_told cuwelfra_set_floor(const uint8_t *log, size_t log_len, const uint8_t *held, size_t held_len, uint8_t *head,
+                                 size_t head_len, uint64_t wall_time, uint32_t logical_counter, uint64_t actor_id);
 
 /* ---- Peers
    A peer area, in words: id, state (0 connecting, 1 syncing, 2 up to date, 3 disconnected), remote clock (65), last_seen,

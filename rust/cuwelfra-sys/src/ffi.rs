@@ -275,6 +275,41 @@ extern "C" {
         actor_id: u64,
     ) -> ClockNumber;
 
+    // Merging.
+    pub fn cuwelfra_apply_remote_ops(
+        max_pending: u64,
+        max_pending_per_actor: u64,
+        max_pending_bytes: u64,
+        max_pending_age_ms: u64,
+        max_drift_ms: u64,
+        max_deps: u64,
+        max_payload: u64,
+        time_ms: u64,
+        log: *mut u8,
+        log_len: usize,
+        held: *mut u8,
+        held_len: usize,
+        head: *mut u8,
+        head_len: usize,
+        batch: *const u8,
+        batch_len: usize,
+        scratch: *mut u8,
+        scratch_len: usize,
+        output: *mut u8,
+        output_len: usize,
+    ) -> MergeTold;
+    pub fn cuwelfra_set_floor(
+        log: *const u8,
+        log_len: usize,
+        held: *const u8,
+        held_len: usize,
+        head: *mut u8,
+        head_len: usize,
+        wall_time: u64,
+        logical_counter: u32,
+        actor_id: u64,
+    ) -> Told;
+
     // Peers.
     pub fn cuwelfra_peer_new(peer: *mut u8, peer_len: usize, id: u64) -> Told;
     pub fn cuwelfra_peer_connection_started(peer: *mut u8, peer_len: usize, now: u64) -> Told;

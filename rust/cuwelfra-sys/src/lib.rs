@@ -8,12 +8,14 @@ pub mod ffi;
 
 mod clocks;
 mod codec;
+mod merge;
 mod peers;
 mod rows;
 mod store;
 
 pub use clocks::*;
 pub use codec::*;
+pub use merge::*;
 pub use peers::*;
 pub use rows::*;
 pub use store::*;

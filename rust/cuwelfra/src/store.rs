@@ -78,6 +78,14 @@ impl Store {
         }
     }
 
+    pub(crate) fn lent_mut(&mut self) -> sys::AreasMut<'_> {
+        sys::AreasMut {
+            log: &mut self.log,
+            held: &mut self.held,
+            head: &mut self.head,
+        }
+    }
+
     /// Makes the store anew: these logged rows, inserted one after the other, above this compacted clock; 1, 17, 18.
     pub fn from_parts(&mut self, rows: &[Slot], compacted: &VectorClock) -> Result<(), Refusal> {
         let parts: Vec<u8> = rows.iter().flat_map(|slot| *slot.area()).collect();
