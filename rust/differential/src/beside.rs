@@ -186,14 +186,9 @@ impl Pair {
         same_areas(&self.areas, &self.wanted, inputs)
     }
 
-    /// A call through the wrapper, which takes the areas and hands them back.
+    /// A call through the wrapper.
     pub fn wrapped<T>(&mut self, call: impl FnOnce(&mut cuwelfra::Store) -> T) -> T {
-        let areas = std::mem::take(&mut self.areas);
-        let mut store = cuwelfra::Store::from_areas(areas.log, areas.held, areas.head);
-        let answer = call(&mut store);
-        let (log, held, head) = store.into_areas();
-        self.areas = Areas { log, held, head };
-        answer
+        self.areas.wrapped(call)
     }
 
     pub fn shown(&self) -> String {

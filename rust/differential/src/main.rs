@@ -6,12 +6,20 @@
 #![forbid(unsafe_code)]
 
 mod area;
+mod batches;
 #[cfg(oracle_present)]
 mod beside;
 mod calls;
+mod census;
 mod damage;
+mod demand;
+mod desk;
+mod lending;
+mod lists;
+mod model;
 #[cfg(oracle_present)]
 mod original;
+mod reading;
 mod rng;
 mod rows;
 mod store;

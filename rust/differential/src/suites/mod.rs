@@ -3,10 +3,12 @@
 use crate::rng::Rng;
 use crate::support::Outcome;
 
+mod batch_bytes;
 #[cfg(oracle_present)]
 mod chunks;
 #[cfg(oracle_present)]
 mod compact;
+mod convergence;
 #[cfg(oracle_present)]
 mod cutoff;
 mod damaged_stores;
@@ -24,6 +26,8 @@ mod listed;
 mod log_insert;
 #[cfg(oracle_present)]
 mod lookup;
+mod merge_cases;
+mod odd_stores;
 #[cfg(oracle_present)]
 mod peer_pending;
 #[cfg(oracle_present)]
@@ -111,4 +115,8 @@ pub const SUITES: &[Suite] = &[
     beside_original!("peers", peers::run),
     beside_original!("peer-pending", peer_pending::run),
     alone!("damaged-stores", damaged_stores::run),
+    alone!("merge-cases", merge_cases::run),
+    alone!("batch-bytes", batch_bytes::run),
+    alone!("odd-stores", odd_stores::run),
+    alone!("convergence", convergence::run),
 ];

@@ -1,0 +1,76 @@
+//! How often calls were accepted, refused with each number, and moved rows in each way.
+
+use std::ops::RangeInclusive;
+
+use cuwelfra_sys::MergeTold;
+
+use crate::support::Outcome;
+
+/// Refusals that a batch call has.
+const REFUSALS: usize = 18;
+
+#[derive(Default)]
+pub struct Census {
+    accepted: u64,
+    refused: [u64; REFUSALS + 1],
+    moved: [u64; 7],
+}
+
+/// What accepted calls do to rows.
+pub const MOVES: [&str; 7] = [
+    "applied",
+    "stale",
+    "rejected",
+    "duplicates",
+    "held",
+    "expired",
+    "dropped",
+];
+
+impl Census {
+    pub fn note(&mut self, told: &MergeTold) {
+        if told.told.number > 0 {
+            self.refused[told.told.number as usize] += 1;
+            return;
+        }
+        self.accepted += 1;
+        let counts = [
+            told.applied,
+            told.stale,
+            told.rejected,
+            told.duplicates,
+            told.held,
+            told.expired,
+            told.dropped,
+        ];
+        for (calls, count) in self.moved.iter_mut().zip(counts) {
+            *calls += u64::from(count > 0);
+        }
+    }
+
+    fn calls(&self) -> u64 {
+        self.accepted + self.refused.iter().sum::<u64>()
+    }
+
+    /// Prints the counts. Requires that calls were accepted, and that each of these refusals and moves occurred.
+    pub fn finish(&self, suite: &str, refusals: RangeInclusive<usize>, moves: &[&str]) -> Outcome {
+        let refused = self.refused.iter().enumerate().skip(1);
+        let refused: Vec<String> = refused.map(|(i, n)| format!("{i}: {n}")).collect();
+        let moved = MOVES.iter().zip(self.moved);
+        let listed: Vec<String> = moved
+            .clone()
+            .map(|(name, n)| format!("{name} {n}"))
+            .collect();
+        println!(
+            "{suite}: accepted {}, of which with rows {}; refused by number {}",
+            self.accepted,
+            listed.join(", "),
+            refused.join(", ")
+        );
+        let lacking = moved.filter(|(name, n)| *n == 0 && moves.contains(name));
+        if self.accepted == 0 || self.refused[refusals].contains(&0) || lacking.count() > 0 {
+            return Err("a refusal or a move never occurred".into());
+        }
+        Ok(self.calls())
+    }
+}

@@ -1,0 +1,85 @@
+//! Batch calls of the port: what they are lent, and that they change only what they may.
+
+use cuwelfra_sys::{self as sys, MergeTold};
+
+use crate::batches::{batch, Answer, LINE};
+use crate::census::Census;
+use crate::lists::Offer;
+use crate::model::{batch_call, Lent};
+use crate::rows::SLOT;
+use crate::store::{self, same_areas, Areas};
+use crate::support::{agree, pattern, Check};
+
+impl Lent {
+    /// An offer, with scratch and output for its rows and so many held ones.
+    pub fn new(offer: &Offer, held: usize) -> Self {
+        let room = held + offer.rows.len();
+        Self {
+            limits: offer.limits,
+            time: offer.time,
+            batch: batch(&offer.rows),
+            scratch: SLOT * room,
+            output: LINE * room,
+        }
+    }
+}
+
+/// What a call told and left.
+pub struct Answered {
+    pub told: MergeTold,
+    pub scratch: Vec<u8>,
+    pub output: Vec<u8>,
+}
+
+/// Makes the call; scratch and output hold other bytes before it.
+pub fn call(areas: &mut Areas, lent: &Lent) -> Answered {
+    let mut scratch = pattern(lent.scratch);
+    let mut output = pattern(lent.output);
+    let store = sys::AreasMut {
+        log: &mut areas.log,
+        held: &mut areas.held,
+        head: &mut areas.head,
+    };
+    let told = sys::apply_remote_ops(
+        lent.limits,
+        lent.time,
+        store,
+        &lent.batch,
+        &mut scratch,
+        &mut output,
+    );
+    Answered {
+        told,
+        scratch,
+        output,
+    }
+}
+
+/// Requires that the call answers so and leaves these areas and the answer's lines; that scratch is zero then, and the
+/// output's other bytes stay.
+pub fn same_call(
+    areas: &mut Areas,
+    lent: &Lent,
+    answer: &Answer,
+    wanted: &Areas,
+    inputs: impl Fn() -> String,
+) -> Check {
+    let answered = call(areas, lent);
+    agree(&answered.told, &answer.told, &inputs)?;
+    let lines = answer.output();
+    let mut output = pattern(lent.output);
+    output[..lines.len()].copy_from_slice(&lines);
+    agree(&answered.output, &output, &inputs)?;
+    let zero = answered.scratch.iter().all(|byte| *byte == 0);
+    agree(&zero, &true, || format!("scratch after {}", inputs()))?;
+    same_areas(areas, wanted, inputs)
+}
+
+/// Requires that a call on a copy of the areas answers as the model does, and notes what it answered.
+pub fn modelled(census: &mut Census, areas: &Areas, lent: &Lent) -> Check {
+    let (answer, wanted) = batch_call(areas, lent);
+    let inputs = || format!("{lent:02x?}, the store {:02x?}", store::read(areas));
+    same_call(&mut areas.clone(), lent, &answer, &wanted, inputs)?;
+    census.note(&answer.told);
+    Ok(())
+}
