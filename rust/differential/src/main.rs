@@ -14,18 +14,29 @@ mod census;
 mod damage;
 mod demand;
 mod desk;
+#[cfg(oracle_present)]
+mod joined;
+#[cfg(oracle_present)]
+mod judges;
 mod lending;
 mod lists;
+#[cfg(oracle_present)]
+mod merger;
 mod model;
 #[cfg(oracle_present)]
 mod original;
+#[cfg(oracle_present)]
+mod pending;
 mod reading;
 mod rng;
 mod rows;
 mod store;
+mod strange;
 mod suites;
 mod support;
 mod worlds;
+#[cfg(oracle_present)]
+mod wrapped;
 
 use std::process::ExitCode;
 

@@ -5,6 +5,8 @@ use crate::support::Outcome;
 
 mod batch_bytes;
 #[cfg(oracle_present)]
+mod call_lists;
+#[cfg(oracle_present)]
 mod chunks;
 #[cfg(oracle_present)]
 mod compact;
@@ -36,7 +38,7 @@ mod peers;
 mod readers;
 mod refusals;
 #[cfg(oracle_present)]
-mod row_bytes;
+pub mod row_bytes;
 #[cfg(oracle_present)]
 mod row_faults;
 #[cfg(oracle_present)]
@@ -118,5 +120,6 @@ pub const SUITES: &[Suite] = &[
     alone!("merge-cases", merge_cases::run),
     alone!("batch-bytes", batch_bytes::run),
     alone!("odd-stores", odd_stores::run),
+    beside_original!("call-lists", call_lists::run),
     alone!("convergence", convergence::run),
 ];

@@ -84,7 +84,7 @@ fn written(rng: &mut Rng, row: &Row) -> Check {
     agree(&bytes, &Ok(unsigned(row)), inputs)
 }
 
-fn wrapped_row(row: &Row) -> WrappedRow {
+pub fn wrapped_row(row: &Row) -> WrappedRow {
     WrappedRow {
         timestamp: wrapped_stamp(row.stamp),
         actor: ActorId(row.author),
