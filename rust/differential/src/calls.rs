@@ -1,11 +1,14 @@
 //! Every exported call that takes a store, with its other areas.
 
-use cuwelfra_sys::{self as sys, ClockNumber, LookupTold, StampTold, Told};
+use cuwelfra_sys::{self as sys, ClockNumber, LookupTold, MergeLimits, StampTold, Told};
 
 use crate::area::{self, BYTES};
+use crate::batches::Answer;
+use crate::lending;
+use crate::model::Lent;
 use crate::rng::Rng;
 use crate::rows::SLOT;
-use crate::store::Areas;
+use crate::store::{Areas, HELD};
 use crate::support::pattern;
 use crate::worlds::World;
 
@@ -52,7 +55,7 @@ pub enum Takes {
 }
 
 /// Name, other area, call.
-pub const CALLS: [(&str, Takes, Call); 16] = [
+pub const CALLS: [(&str, Takes, Call); 18] = [
     ("store_check", Takes::Nothing, |s, _| {
         sys::store_check(s.lent())
     }),
@@ -106,6 +109,11 @@ pub const CALLS: [(&str, Takes, Call); 16] = [
     ("peer_pending_ops", Takes::Peer, |s, o| {
         number(sys::peer_pending_ops(&o.peer, s.lent()))
     }),
+    ("set_floor", Takes::Nothing, |s, o| {
+        let floor = (u64::MAX, 0, o.author);
+        sys::set_floor(&s.log, &s.held, &mut s.head, floor)
+    }),
+    ("apply_remote_ops", Takes::Nothing, |s, o| merged(s, o)),
 ];
 
 /// Cuts the other area of a call by a byte; false where it takes none.
@@ -129,6 +137,28 @@ pub fn spoil(takes: Takes, others: &mut Others) -> bool {
         Takes::Peer => area::set_word(&mut others.peer, 1, 4),
     }
     true
+}
+
+/// A batch without rows. Scratch is zero afterwards, and a refusal gives no counts.
+fn merged(s: &mut Areas, o: &mut Others) -> Told {
+    let lent = Lent {
+        limits: MergeLimits::default(),
+        time: 0,
+        batch: vec![0],
+        scratch: HELD,
+        output: o.output.len(),
+    };
+    let answered = lending::call(s, &lent);
+    let told = answered.told.told;
+    assert!(answered.scratch.iter().all(|byte| *byte == 0), "scratch");
+    if told != Told::default() {
+        let refused = Answer::refused(told);
+        assert_eq!(
+            answered.told, refused.told,
+            "a refused call gives no counts"
+        );
+    }
+    told
 }
 
 fn number(answer: ClockNumber) -> Told {
