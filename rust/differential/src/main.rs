@@ -1,4 +1,5 @@
 //! Runs the port against the Rust original: `differential [SUITE...]`, all suites without a name.
+//! `differential record FILE` writes a sample of the original's answers, in the form that `record` describes.
 
 #![deny(warnings)]
 // Without the original some shared functions have no caller.
@@ -28,6 +29,8 @@ mod original;
 #[cfg(oracle_present)]
 mod pending;
 mod reading;
+#[cfg(oracle_present)]
+mod record;
 mod rng;
 mod rows;
 mod store;
@@ -45,6 +48,11 @@ use suites::{Suite, SUITES};
 
 fn main() -> ExitCode {
     let names: Vec<String> = std::env::args().skip(1).collect();
+    if let [command, file] = &names[..] {
+        if command == "record" {
+            return record(file);
+        }
+    }
     if let Some(unknown) = names.iter().find(|name| find(name).is_none()) {
         eprintln!("no suite {unknown}; there are: {}", all_names());
         return ExitCode::from(2);
@@ -66,6 +74,27 @@ fn main() -> ExitCode {
     }
     println!("differential: {passed} suites passed");
     ExitCode::SUCCESS
+}
+
+/// Writes the sample.
+#[cfg(oracle_present)]
+fn record(file: &str) -> ExitCode {
+    match record::record(&mut Rng::for_suite(rng::seed(), "record"), file) {
+        Ok((records, bytes)) => {
+            println!("{file}: {records} records, {bytes} bytes");
+            ExitCode::SUCCESS
+        }
+        Err(error) => {
+            eprintln!("{error}");
+            ExitCode::FAILURE
+        }
+    }
+}
+
+#[cfg(not(oracle_present))]
+fn record(_: &str) -> ExitCode {
+    eprintln!("The sample is made of the Rust original's answers, and the original is absent.");
+    ExitCode::FAILURE
 }
 
 /// Whether a suite passed, `None` where it is skipped.

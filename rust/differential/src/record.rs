@@ -1,0 +1,228 @@
+//! Records the original's answers on call lists, for a replay that needs no Rust: `differential record FILE`.
+//!
+//! Numbers are big-endian words of 64 bits. The file begins with three: the bytes "cuwelfra", how many records follow, and
+//! the words of a record's head, 26. A record is its head and two blocks of bytes. The head:
+//!
+//! | word | new store | floor setting | batch call | local row |
+//! |---|---|---|---|---|
+//! | 0 | 1 | 2 | 3 | 4 |
+//! | 1: length of the first block | 0, or 520 for a clock area | 0 | that of the batch | 704 for a slot |
+//! | 2: length of the second block | 0 | 0 | that of the lines | 0 |
+//! | 3 | slots of the log area | wall time | time in ms | 0 |
+//! | 4 to 10 | 0 | counter, author, then 0 | the settings, `max_pending` to `max_payload` | 0 |
+//! | 11, 12 | 0 | 0 | lengths of scratch and output | 0 |
+//! | 13 to 15 | 0 | 0 | the refusal's number and values, or 0 | 0 |
+//! | 16 to 22 | 0 | 0 | the counts, `applied` to `dropped` | 0 |
+//! | 23 to 25 | check numbers of log, held and head area after the call | the same | the same | the same |
+//!
+//! A new store has areas of zeros; a clock area goes to 48 and 568 of the head, as clock and compacted clock. The records up
+//! to the next new store are calls on it, one after the other. Before a batch call each byte of scratch and output is 165.
+//! After it scratch is zero, and the output begins with the lines; its other bytes are 165 still. A local row is inserted
+//! into the log.
+//!
+//! The check number of an area: 0 at first; then for each word of the area, from the first on, it is rotated left by 5 bits,
+//! and the word is added, modulo 2^64.
+
+use std::fs;
+
+use cuwelfra_sys::{MergeLimits, MergeTold};
+
+use crate::area::{self, word};
+use crate::batches::BatchRow;
+use crate::beside::{log_of, operation};
+use crate::census::Census;
+use crate::lists::{Offer, Universe};
+use crate::merger::Original;
+use crate::model::Lent;
+use crate::rng::Rng;
+use crate::rows::{Row, Stamp};
+use crate::store::{Areas, Entries};
+
+/// Words of a record's head.
+const HEAD: usize = 26;
+/// Lists over small universes, over as many authors as a clock has, and with batches of 64 rows.
+const SMALL: usize = 1_100;
+const CROWDED: usize = 60;
+const WIDE: usize = 8;
+
+/// Writes the file, and gives how many records and bytes it has.
+pub fn record(rng: &mut Rng, file: &str) -> Result<(u64, usize), String> {
+    let mut sample = Sample::default();
+    for _ in 0..SMALL {
+        small(rng, &mut sample);
+    }
+    for _ in 0..CROWDED {
+        crowded(rng, &mut sample);
+    }
+    for _ in 0..WIDE {
+        wide(rng, &mut sample);
+    }
+    let moves = ["applied", "stale", "rejected", "held", "expired", "dropped"];
+    sample.census.finish("record", 5..=18, &moves)?;
+    let mut bytes = b"cuwelfra".to_vec();
+    put(&mut bytes, &[sample.records, HEAD as u64]);
+    bytes.extend(sample.bytes);
+    fs::write(file, &bytes).map_err(|error| format!("{file}: {error}"))?;
+    Ok((sample.records, bytes.len()))
+}
+
+fn small(rng: &mut Rng, sample: &mut Sample) {
+    let universe = Universe::new(rng);
+    let start = universe.start;
+    let authors = universe.authors.iter().filter(|_| start > 0);
+    let compacted: Entries = authors.map(|author| (*author, start)).collect();
+    let mut store = sample.begin(rng.pick(&[1, 3, 6, 12]), &compacted);
+    for _ in 0..1 + rng.below(5) {
+        match rng.below(16) {
+            0 | 1 => store.set_floor(universe.stamp(rng)),
+            2 => store.insert(&universe.rows[rng.below(universe.rows.len())]),
+            _ => store.batch(&universe.offer(rng)),
+        }
+    }
+}
+
+fn crowded(rng: &mut Rng, sample: &mut Sample) {
+    let universe = Universe::of(rng, &[1, 31, 32, 33, 34], 0);
+    let compacted: Entries = (1..=31).map(|author| (author, 0)).collect();
+    let mut store = sample.begin(8, &compacted);
+    for _ in 0..3 {
+        store.batch(&universe.offer(rng));
+    }
+}
+
+/// 64 held rows, and a batch that releases them.
+fn wide(rng: &mut Rng, sample: &mut Sample) {
+    let universe = Universe::of(rng, &[1], 0);
+    let authors = rng.pick(&[9, 31, 32]);
+    let mut store = sample.begin(rng.pick(&[127, 128]), &Entries::new());
+    let mut rows = Vec::new();
+    for i in 0..128 {
+        let mut row = universe.row(rng, 2 + i % authors, 1 + i / authors);
+        row.deps = vec![(1, 1)];
+        rows.push(BatchRow::new(row));
+    }
+    let mut gate = universe.row(rng, 1, 1);
+    gate.deps.clear();
+    rows[127] = BatchRow::new(gate);
+    for batch in rows.chunks(64) {
+        store.batch(&Offer {
+            limits: MergeLimits::default(),
+            time: u64::MAX,
+            rows: batch.to_vec(),
+        });
+    }
+}
+
+/// What is recorded.
+#[derive(Default)]
+struct Sample {
+    records: u64,
+    bytes: Vec<u8>,
+    census: Census,
+}
+
+/// A store of the sample.
+struct Store<'a> {
+    sample: &'a mut Sample,
+    original: Original,
+    areas: Areas,
+}
+
+impl Sample {
+    fn begin(&mut self, slots: usize, compacted: &Entries) -> Store<'_> {
+        let mut store = Store {
+            sample: self,
+            original: Original::new(log_of(&[], compacted)),
+            areas: Areas::new(slots, 0),
+        };
+        let clock = match compacted.is_empty() {
+            true => Vec::new(),
+            false => area::encode(compacted.clone()).to_vec(),
+        };
+        store.put(1, &[slots as u64], &MergeTold::default(), [&clock, &[]]);
+        store
+    }
+}
+
+impl Store<'_> {
+    fn set_floor(&mut self, floor: Stamp) {
+        self.original.set_floor(floor);
+        let numbers = [floor.0, u64::from(floor.1), floor.2];
+        self.put(2, &numbers, &MergeTold::default(), [&[], &[]]);
+    }
+
+    fn batch(&mut self, offer: &Offer) {
+        let lent = Lent::new(offer, self.original.held().len());
+        let (answer, after) = self.original.apply(offer, self.areas.capacity());
+        self.sample.census.note(&answer.told);
+        if let Some(after) = after {
+            self.original = after;
+        }
+        let limits = &offer.limits;
+        let numbers = [
+            offer.time,
+            limits.max_pending,
+            limits.max_pending_per_actor,
+            limits.max_pending_bytes,
+            limits.max_pending_age_ms,
+            limits.max_drift_ms,
+            limits.max_deps,
+            limits.max_payload,
+            lent.scratch as u64,
+            lent.output as u64,
+        ];
+        self.put(3, &numbers, &answer.told, [&lent.batch, &answer.output()]);
+    }
+
+    /// A local row, where there is room.
+    fn insert(&mut self, row: &Row) {
+        if self.original.log.len() < self.areas.capacity() {
+            self.original.log.insert(operation(row));
+            self.put(4, &[], &MergeTold::default(), [&row.slot(), &[]]);
+        }
+    }
+
+    /// One record, of what the original holds now.
+    fn put(&mut self, kind: u64, numbers: &[u64], told: &MergeTold, blocks: [&[u8]; 2]) {
+        self.areas.write(&self.original.content());
+        let mut head = [0; HEAD];
+        head[0] = kind;
+        head[1] = blocks[0].len() as u64;
+        head[2] = blocks[1].len() as u64;
+        head[3..3 + numbers.len()].copy_from_slice(numbers);
+        head[13..23].copy_from_slice(&[
+            told.told.number,
+            told.told.first,
+            told.told.second,
+            told.applied,
+            told.stale,
+            told.rejected,
+            told.duplicates,
+            told.held,
+            told.expired,
+            told.dropped,
+        ]);
+        let areas = &self.areas;
+        for (number, area) in head[23..]
+            .iter_mut()
+            .zip([&areas.log, &areas.held, &areas.head])
+        {
+            *number = check_number(area);
+        }
+        let sample = &mut self.sample;
+        sample.records += 1;
+        put(&mut sample.bytes, &head);
+        sample.bytes.extend(blocks.concat());
+    }
+}
+
+fn put(bytes: &mut Vec<u8>, numbers: &[u64]) {
+    for number in numbers {
+        bytes.extend(number.to_be_bytes());
+    }
+}
+
+fn check_number(area: &[u8]) -> u64 {
+    let words = (0..area.len() / 8).map(|i| word(area, i));
+    words.fold(0, |sum: u64, word| sum.rotate_left(5).wrapping_add(word))
+}
