@@ -8,7 +8,7 @@ use crate::lending;
 use crate::model::Lent;
 use crate::rng::Rng;
 use crate::rows::SLOT;
-use crate::store::{Areas, HELD};
+use crate::store::{is_zero, Areas, HELD};
 use crate::support::pattern;
 use crate::worlds::World;
 
@@ -150,7 +150,7 @@ fn merged(s: &mut Areas, o: &mut Others) -> Told {
     };
     let answered = lending::call(s, &lent);
     let told = answered.told.told;
-    assert!(answered.scratch.iter().all(|byte| *byte == 0), "scratch");
+    assert!(is_zero(&answered.scratch), "scratch");
     if told != Told::default() {
         let refused = Answer::refused(told);
         assert_eq!(

@@ -8,7 +8,7 @@ use crate::lending::call;
 use crate::lists::Offer;
 use crate::model::Lent;
 use crate::rows::{Held, Row, Stamp};
-use crate::store::{self, Areas, Content};
+use crate::store::{self, is_zero, Areas, Content};
 
 /// A row without dependencies, whose wall time is its sequence. It fits.
 pub fn row(author: u64, seq: u64) -> BatchRow {
@@ -94,6 +94,7 @@ impl Desk {
         let before = self.areas.clone();
         let answer = call(&mut self.areas, lent);
         let told = answer.told;
+        assert!(is_zero(&answer.scratch), "scratch");
         if told.told != Told::default() {
             assert!(self.areas == before, "a refusal changed the store");
             return refusal(told.told);

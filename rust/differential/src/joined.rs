@@ -23,20 +23,16 @@ pub struct Joined {
 }
 
 impl Joined {
-    pub fn new(log: ReplicatedLog, areas: Areas) -> Self {
-        let mut joined = Self {
-            original: Original::new(log),
-            wanted: areas.clone(),
-            areas,
-        };
-        joined.rewrite();
-        joined
-    }
-
-    /// Writes what the original has over the port's areas.
-    fn rewrite(&mut self) {
-        self.wanted.write(&self.original.content());
-        self.areas.clone_from(&self.wanted);
+    /// The original's log, and a log area for so many rows.
+    pub fn new(log: ReplicatedLog, capacity: usize) -> Self {
+        let original = Original::new(log);
+        let mut wanted = Areas::new(capacity, 0);
+        wanted.write(&original.content());
+        Self {
+            original,
+            areas: wanted.clone(),
+            wanted,
+        }
     }
 
     /// What a call is lent.
@@ -118,7 +114,8 @@ impl Joined {
     pub fn replace(&mut self, log: ReplicatedLog) {
         if log.len() <= self.areas.capacity() && authors_fit(&log) {
             self.original.log = log;
-            self.rewrite();
+            self.wanted.write_log(&self.original.content());
+            self.areas.clone_from(&self.wanted);
         }
     }
 }

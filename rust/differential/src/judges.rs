@@ -1,6 +1,6 @@
 //! The original's verifier, policy and state, which answer as a batch's closing bytes say, and its refusals.
 
-use std::cell::Cell;
+use std::cell::{Cell, RefCell};
 use std::sync::OnceLock;
 
 use cuwelfra_sys::Told;
@@ -11,7 +11,7 @@ use oracle::stubs::crypto::Verifier;
 use oracle::stubs::{ActorId, CrdtCompatible, State, UirNode};
 
 use crate::batches::{outcome_of, BatchRow};
-use crate::beside::{operation, stamp};
+use crate::beside::stamp;
 use crate::rows::Stamp;
 
 /// The verdicts of a batch. The original asks once for each row, in their order, up to the first fault.
@@ -28,23 +28,24 @@ impl<'a> Verdicts<'a> {
 }
 
 impl Verifier for Verdicts<'_> {
-    fn verify(&self, actor: ActorId, message: &[u8], signature: &[u8]) -> bool {
+    fn verify(&self, actor: ActorId, _: &[u8], signature: &[u8]) -> bool {
         let lent = &self.rows[self.asked.replace(self.asked.get() + 1)];
-        let asked = (actor, message, signature);
-        let row = operation(&lent.row);
-        assert_eq!(
-            asked,
-            (row.actor, &row.signing_bytes()[..], &row.signature[..])
-        );
+        let row = &lent.row;
+        assert_eq!((actor.0, signature), (row.author, &row.signature[..]));
         lent.verdict == 1
     }
 }
 
-/// Policy and state look the outcome up by author and payload: the policy has outcomes 3 and 4, the state 1 and 2.
-pub struct Outcomes;
+/// Policy and state look the outcome up by author and payload: the policy has outcomes 3 and 4, the state 1 and 2. The
+/// policy keeps the authors of the rows that it is asked about: all that are logged and not stale, in logging order.
+#[derive(Default)]
+pub struct Outcomes {
+    pub asked: RefCell<Vec<u64>>,
+}
 
 impl OpPolicy for Outcomes {
     fn check(&self, author: ActorId, op: &UirNode) -> Result<(), ApplyError> {
+        self.asked.borrow_mut().push(author.0);
         match outcome_of(author.0, &op.bytes) {
             (3, _) => Err(ApplyError::Denied),
             (4, text) => Err(ApplyError::Invalid(texts()[text as usize])),
@@ -57,27 +58,18 @@ impl OpPolicy for Outcomes {
 #[derive(Clone, Debug, Default)]
 pub struct Applied {
     pub stamps: Vec<Stamp>,
-    takes_all: bool,
-}
-
-impl Applied {
-    /// A state that every row fits.
-    pub fn all() -> Self {
-        Self {
-            takes_all: true,
-            ..Self::default()
-        }
-    }
 }
 
 impl CrdtCompatible for Applied {
     fn apply(&mut self, at: &Timestamp, op: &UirNode) -> Result<(), ApplyError> {
         match outcome_of(at.actor_id.0, &op.bytes) {
-            (1, _) if !self.takes_all => return Err(ApplyError::MalformedOp),
-            (2, tag) if !self.takes_all => return Err(ApplyError::UnknownOpTag(tag as u8)),
-            _ => self.stamps.push(stamp(at)),
+            (1, _) => Err(ApplyError::MalformedOp),
+            (2, tag) => Err(ApplyError::UnknownOpTag(tag as u8)),
+            _ => {
+                self.stamps.push(stamp(at));
+                Ok(())
+            }
         }
-        Ok(())
     }
 }
 

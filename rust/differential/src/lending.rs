@@ -7,7 +7,7 @@ use crate::census::Census;
 use crate::lists::Offer;
 use crate::model::{batch_call, Lent};
 use crate::rows::SLOT;
-use crate::store::{self, same_areas, Areas};
+use crate::store::{self, is_zero, same_areas, Areas};
 use crate::support::{agree, pattern, Check};
 
 impl Lent {
@@ -70,8 +70,9 @@ pub fn same_call(
     let mut output = pattern(lent.output);
     output[..lines.len()].copy_from_slice(&lines);
     agree(&answered.output, &output, &inputs)?;
-    let zero = answered.scratch.iter().all(|byte| *byte == 0);
-    agree(&zero, &true, || format!("scratch after {}", inputs()))?;
+    agree(&is_zero(&answered.scratch), &true, || {
+        format!("scratch after {}", inputs())
+    })?;
     same_areas(areas, wanted, inputs)
 }
 

@@ -1,11 +1,11 @@
 //! The original's merger with its log, driven as a store of the port is.
 
 use cuwelfra_sys::{MergeLimits, MergeTold, Told};
-use oracle::log::{ReplicatedLog, StampedOperation};
-use oracle::merge::{AllowAll, MergeReport, Merger};
+use oracle::log::ReplicatedLog;
+use oracle::merge::{MergeReport, Merger};
 use oracle::stubs::ActorId;
 
-use crate::batches::{Answer, BatchRow, Line};
+use crate::batches::{Answer, Line};
 use crate::beside::{authors_fit, content_of, operation, stamp, timestamp};
 use crate::judges::{merge_told, rejected_fate, Applied, Outcomes, Verdicts};
 use crate::lists::Offer;
@@ -17,10 +17,19 @@ use crate::support::refused;
 #[derive(Clone)]
 pub struct Original {
     pub log: ReplicatedLog,
+    /// Holds rows, and never has a floor.
     merger: Merger,
-    /// The same merger without a floor, whose state sees every row that is logged.
-    unfloored: Merger,
+    /// Has the floor, and never holds a row.
+    floors: Merger,
     held: Vec<Held>,
+}
+
+/// What a call of the original comes to.
+struct Ran {
+    report: MergeReport,
+    /// The authors of the logged rows, in logging order; without the stale ones where there is a floor.
+    authors: Vec<u64>,
+    applied: Vec<Stamp>,
 }
 
 impl Original {
@@ -28,7 +37,7 @@ impl Original {
         Self {
             log,
             merger: Merger::default(),
-            unfloored: Merger::default(),
+            floors: Merger::default(),
             held: Vec::new(),
         }
     }
@@ -46,71 +55,57 @@ impl Original {
 
     fn merged(&self, offer: &Offer) -> Result<(Answer, Self), Told> {
         let mut after = self.clone();
-        let mut applied = Applied::default();
-        after.merger.set_limits(settings(&offer.limits));
-        let report = after.merger.apply_remote_ops(
-            &Verdicts::of(&offer.rows),
-            &Outcomes,
-            offer.time,
-            &mut applied,
-            &mut after.log,
-            operations(&offer.rows),
-        );
-        let report = report.map_err(|error| merge_told(&error))?;
-        let logged = after.order(&self.log, offer);
+        let mut ran = run(&mut after.merger, &mut after.log, offer)?;
+        if let Some(floor) = self.floors.floor() {
+            // The call itself has the floor. The one without it told the order of all logged rows.
+            let mut merger = self.merger.clone();
+            merger.set_floor(floor);
+            let mut log = self.log.clone();
+            let floored = run(&mut merger, &mut log, offer)?;
+            assert_eq!(log, after.log, "a floor decides on no logged row");
+            ran = Ran {
+                authors: ran.authors,
+                ..floored
+            };
+        }
         after.held = pending::held(&after.merger);
-        assert_eq!(after.held.len(), after.merger.pending_len());
-        let lines = self.lines(&logged, &report, &applied);
-        let told = self.told(&report, &after, offer);
+        assert_eq!(after.held.len(), ran.report.buffered);
+        let lines = self.lines(&ran, &after);
+        let told = self.told(&ran.report, &after, offer);
         Ok((Answer { told, lines }, after))
     }
 
-    /// The stamps of the logged rows in logging order, from the merger without a floor.
-    fn order(&mut self, before: &ReplicatedLog, offer: &Offer) -> Vec<Stamp> {
-        let mut log = before.clone();
-        let mut all = Applied::all();
-        self.unfloored.set_limits(settings(&offer.limits));
-        let report = self.unfloored.apply_remote_ops(
-            &Verdicts::of(&offer.rows),
-            &AllowAll,
-            offer.time,
-            &mut all,
-            &mut log,
-            operations(&offer.rows),
-        );
-        assert!(report.is_ok(), "the floor decides on no refusal");
-        assert_eq!(log, self.log, "the floor decides on no logged row");
-        all.stamps
-    }
-
-    /// A line for each logged row: an author's rows are logged in the order of their sequence.
-    fn lines(&self, logged: &[Stamp], report: &MergeReport, applied: &Applied) -> Vec<Line> {
+    /// A line for each logged row. An author's rows are logged in the order of their sequence.
+    fn lines(&self, ran: &Ran, after: &Self) -> Vec<Line> {
         let mut clock = self.log.clock().clone();
-        let floor = self.merger.floor();
+        let floor = self.floors.floor();
         let mut lines = Vec::new();
-        for stamp in logged {
-            let actor = ActorId(stamp.2);
+        let mut applied = Vec::new();
+        for author in &ran.authors {
+            let actor = ActorId(*author);
             let seq = clock.get(actor) + 1;
             clock.observe(actor, seq);
-            let rejected = report
-                .rejected
-                .iter()
-                .find(|rejection| (rejection.actor, rejection.seq) == (actor, seq));
+            let mut logged = after.log.ops().iter();
+            let logged = logged.find(|op| (op.actor, op.seq) == (actor, seq));
+            let at = logged.expect("a logged row").timestamp;
+            let mut rejected = ran.report.rejected.iter();
+            let rejected = rejected.find(|no| (no.actor, no.seq) == (actor, seq));
             let (fate, detail) = match rejected {
-                Some(rejection) => rejected_fate(&rejection.error),
-                None if floor.is_some_and(|floor| timestamp(*stamp) <= floor) => (1, 0),
-                None => (0, 0),
+                Some(no) => rejected_fate(&no.error),
+                None if floor.is_some_and(|floor| at <= floor) => (1, 0),
+                None => {
+                    applied.push(stamp(&at));
+                    (0, 0)
+                }
             };
             lines.push(Line {
-                author: actor.0,
+                author: *author,
                 seq,
                 fate,
                 detail,
             });
         }
-        let fits = |(line, stamp): (&Line, &Stamp)| (line.fate == 0).then_some(*stamp);
-        let fitting: Vec<Stamp> = lines.iter().zip(logged).filter_map(fits).collect();
-        assert_eq!(fitting, applied.stamps, "applied in this order");
+        assert_eq!(applied, ran.applied, "applied in this order");
         lines
     }
 
@@ -139,7 +134,7 @@ impl Original {
 
     /// Raises the floor.
     pub fn set_floor(&mut self, stamp: Stamp) {
-        self.merger.set_floor(timestamp(stamp));
+        self.floors.set_floor(timestamp(stamp));
     }
 
     /// The rows that wait, with their arrival.
@@ -151,10 +146,29 @@ impl Original {
     pub fn content(&self) -> Content {
         Content {
             held: self.held.clone(),
-            floor: self.merger.floor().as_ref().map(stamp),
+            floor: self.floors.floor().as_ref().map(stamp),
             ..content_of(&self.log)
         }
     }
+}
+
+fn run(merger: &mut Merger, log: &mut ReplicatedLog, offer: &Offer) -> Result<Ran, Told> {
+    merger.set_limits(settings(&offer.limits));
+    let policy = Outcomes::default();
+    let mut applied = Applied::default();
+    let report = merger.apply_remote_ops(
+        &Verdicts::of(&offer.rows),
+        &policy,
+        offer.time,
+        &mut applied,
+        log,
+        offer.rows.iter().map(|lent| operation(&lent.row)).collect(),
+    );
+    Ok(Ran {
+        report: report.map_err(|error| merge_told(&error))?,
+        authors: policy.asked.into_inner(),
+        applied: applied.stamps,
+    })
 }
 
 fn settings(limits: &MergeLimits) -> oracle::merge::MergeLimits {
@@ -167,8 +181,4 @@ fn settings(limits: &MergeLimits) -> oracle::merge::MergeLimits {
         max_deps: limits.max_deps as usize,
         max_payload: limits.max_payload as usize,
     }
-}
-
-fn operations(rows: &[BatchRow]) -> Vec<StampedOperation> {
-    rows.iter().map(|lent| operation(&lent.row)).collect()
 }

@@ -13,7 +13,7 @@ use crate::lending::modelled;
 use crate::lists::{Offer, Universe};
 use crate::rng::Rng;
 use crate::rows::Row;
-use crate::store::{Areas, Entries};
+use crate::store::Entries;
 use crate::strange::{damaged, over_capacity, over_limits, short, unreadable};
 use crate::support::{Check, Outcome};
 
@@ -41,7 +41,7 @@ fn small(rng: &mut Rng, census: &mut Census) -> Check {
         .filter(|_| start > 0 || rng.once_in(9));
     let compacted: Entries = authors.map(|author| (*author, start)).collect();
     let capacity = rng.pick(&[1, 2, 3, 4, 6, 8, 12]);
-    let mut joined = Joined::new(log_of(&[], &compacted), Areas::new(capacity, 0));
+    let mut joined = Joined::new(log_of(&[], &compacted), capacity);
     for _ in 0..1 + rng.below(5) {
         step(rng, &universe, &mut joined, census)?;
     }
@@ -61,8 +61,8 @@ fn crowded(rng: &mut Rng, census: &mut Census) -> Check {
         _ => log_of(&rows, &Entries::new()),
     };
     let capacity = log.len() + rng.pick(&[1, 3, 20]);
-    let mut joined = Joined::new(log, Areas::new(capacity, 0));
-    for _ in 0..1 + rng.below(4) {
+    let mut joined = Joined::new(log, capacity);
+    for _ in 0..1 + rng.below(5) {
         step(rng, &universe, &mut joined, census)?;
     }
     Ok(())
@@ -82,7 +82,7 @@ fn wide(rng: &mut Rng, census: &mut Census) -> Check {
     gate.deps.clear();
     rows[64 + rng.below(64)] = BatchRow::new(gate);
     let capacity = rng.pick(&[127, 128, 140]);
-    let mut joined = Joined::new(ReplicatedLog::new(), Areas::new(capacity, 0));
+    let mut joined = Joined::new(ReplicatedLog::new(), capacity);
     for batch in rows.chunks(64) {
         let offer = Offer {
             limits: MergeLimits::default(),

@@ -387,7 +387,15 @@ fn full_clock() -> Check {
         content.clock.clear();
     });
     says(desk.offer(&[row(33, 1)]), "refused 18 0 0")?;
-    says(desk.offer(&[row(32, 1)]), "logged 32:1; held 1")
+    says(desk.offer(&[row(32, 1)]), "logged 32:1; held 1")?;
+    // A clock is full where watermarks are not.
+    let mut desk = Desk::new(8);
+    desk.change(|content| {
+        content.compacted = (1..=32).map(|author| (author, 0)).collect();
+        content.clock = content.compacted.clone();
+    });
+    says(desk.offer(&[row(33, 1)]), "refused 18 0 0")?;
+    says(desk.offer(&[row(32, 1)]), "logged 32:1")
 }
 
 fn room() -> Check {
