@@ -84,7 +84,12 @@ impl Desk {
     }
 
     /// Offers a batch, and tells what came of it.
-    pub fn offer(&mut self, rows: &[BatchRow]) -> String {
+    pub fn offer<const N: usize>(&mut self, rows: [BatchRow; N]) -> String {
+        self.offer_all(&rows)
+    }
+
+    /// The same for a list of rows.
+    pub fn offer_all(&mut self, rows: &[BatchRow]) -> String {
         let lent = self.lent(rows);
         self.call(&lent)
     }

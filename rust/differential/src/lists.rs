@@ -177,6 +177,26 @@ impl Universe {
     }
 }
 
+/// Two batches of 64: rows of so many authors that all wait for author 1's first, which comes last.
+pub fn gated(rng: &mut Rng, authors: u64) -> [Offer; 2] {
+    let universe = Universe::of(rng, &[1], 0);
+    let mut rows = Vec::new();
+    for i in 0..128 {
+        let mut row = universe.row(rng, 2 + i % authors, 1 + i / authors);
+        row.deps = vec![(1, 1)];
+        rows.push(row);
+    }
+    let gate = rows.last_mut().expect("a row");
+    (gate.author, gate.stamp.2, gate.seq) = (1, 1, 1);
+    gate.deps.clear();
+    let later = rows.split_off(64);
+    [rows, later].map(|rows| Offer {
+        limits: MergeLimits::default(),
+        time: u64::MAX,
+        rows: rows.into_iter().map(BatchRow::new).collect(),
+    })
+}
+
 /// Settings, most of which are wide.
 fn limits(rng: &mut Rng) -> MergeLimits {
     let mut setting = |wide: &[u64], tight: &[u64]| {

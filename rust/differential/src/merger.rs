@@ -17,17 +17,16 @@ use crate::support::refused;
 #[derive(Clone)]
 pub struct Original {
     pub log: ReplicatedLog,
-    /// Holds rows, and never has a floor.
     merger: Merger,
-    /// Has the floor, and never holds a row.
-    floors: Merger,
+    /// Once there is a floor, the same merger without one: its policy is asked about every logged row.
+    unfloored: Option<Merger>,
     held: Vec<Held>,
 }
 
 /// What a call of the original comes to.
 struct Ran {
     report: MergeReport,
-    /// The authors of the logged rows, in logging order; without the stale ones where there is a floor.
+    /// The authors of the logged rows that are not stale, in logging order.
     authors: Vec<u64>,
     applied: Vec<Stamp>,
 }
@@ -37,7 +36,7 @@ impl Original {
         Self {
             log,
             merger: Merger::default(),
-            floors: Merger::default(),
+            unfloored: None,
             held: Vec::new(),
         }
     }
@@ -56,17 +55,10 @@ impl Original {
     fn merged(&self, offer: &Offer) -> Result<(Answer, Self), Told> {
         let mut after = self.clone();
         let mut ran = run(&mut after.merger, &mut after.log, offer)?;
-        if let Some(floor) = self.floors.floor() {
-            // The call itself has the floor. The one without it told the order of all logged rows.
-            let mut merger = self.merger.clone();
-            merger.set_floor(floor);
+        if let Some(unfloored) = &mut after.unfloored {
             let mut log = self.log.clone();
-            let floored = run(&mut merger, &mut log, offer)?;
+            ran.authors = run(unfloored, &mut log, offer)?.authors;
             assert_eq!(log, after.log, "a floor decides on no logged row");
-            ran = Ran {
-                authors: ran.authors,
-                ..floored
-            };
         }
         after.held = pending::held(&after.merger);
         assert_eq!(after.held.len(), ran.report.buffered);
@@ -75,10 +67,10 @@ impl Original {
         Ok((Answer { told, lines }, after))
     }
 
-    /// A line for each logged row. An author's rows are logged in the order of their sequence.
+    /// A line for each logged row, all of whose authors are told. An author's rows go in the order of their sequence.
     fn lines(&self, ran: &Ran, after: &Self) -> Vec<Line> {
         let mut clock = self.log.clock().clone();
-        let floor = self.floors.floor();
+        let floor = self.merger.floor();
         let mut lines = Vec::new();
         let mut applied = Vec::new();
         for author in &ran.authors {
@@ -134,7 +126,8 @@ impl Original {
 
     /// Raises the floor.
     pub fn set_floor(&mut self, stamp: Stamp) {
-        self.floors.set_floor(timestamp(stamp));
+        self.unfloored.get_or_insert_with(|| self.merger.clone());
+        self.merger.set_floor(timestamp(stamp));
     }
 
     /// The rows that wait, with their arrival.
@@ -146,7 +139,7 @@ impl Original {
     pub fn content(&self) -> Content {
         Content {
             held: self.held.clone(),
-            floor: self.floors.floor().as_ref().map(stamp),
+            floor: self.merger.floor().as_ref().map(stamp),
             ..content_of(&self.log)
         }
     }

@@ -25,13 +25,12 @@
 
 use std::fs;
 
-use cuwelfra_sys::{MergeLimits, MergeTold};
+use cuwelfra_sys::MergeTold;
 
 use crate::area::{self, word};
-use crate::batches::BatchRow;
 use crate::beside::{log_of, operation};
 use crate::census::Census;
-use crate::lists::{Offer, Universe};
+use crate::lists::{gated, Offer, Universe};
 use crate::merger::Original;
 use crate::model::Lent;
 use crate::rng::Rng;
@@ -92,24 +91,10 @@ fn crowded(rng: &mut Rng, sample: &mut Sample) {
 
 /// 64 held rows, and a batch that releases them.
 fn wide(rng: &mut Rng, sample: &mut Sample) {
-    let universe = Universe::of(rng, &[1], 0);
     let authors = rng.pick(&[9, 31, 32]);
     let mut store = sample.begin(rng.pick(&[127, 128]), &Entries::new());
-    let mut rows = Vec::new();
-    for i in 0..128 {
-        let mut row = universe.row(rng, 2 + i % authors, 1 + i / authors);
-        row.deps = vec![(1, 1)];
-        rows.push(BatchRow::new(row));
-    }
-    let mut gate = universe.row(rng, 1, 1);
-    gate.deps.clear();
-    rows[127] = BatchRow::new(gate);
-    for batch in rows.chunks(64) {
-        store.batch(&Offer {
-            limits: MergeLimits::default(),
-            time: u64::MAX,
-            rows: batch.to_vec(),
-        });
+    for offer in gated(rng, authors) {
+        store.batch(&offer);
     }
 }
 

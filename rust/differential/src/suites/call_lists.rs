@@ -1,16 +1,14 @@
 //! Lists of a few calls on one store of the port and one merger of the original, over small universes.
 
-use cuwelfra_sys::MergeLimits;
 use oracle::log::ReplicatedLog;
 use oracle::stubs::ActorId;
 
 use crate::area::AUTHORS;
-use crate::batches::BatchRow;
 use crate::beside::log_of;
 use crate::census::{Census, MOVES};
 use crate::joined::Joined;
 use crate::lending::modelled;
-use crate::lists::{Offer, Universe};
+use crate::lists::{gated, Offer, Universe};
 use crate::rng::Rng;
 use crate::rows::Row;
 use crate::store::Entries;
@@ -71,24 +69,9 @@ fn crowded(rng: &mut Rng, census: &mut Census) -> Check {
 /// 64 held rows and as many in a batch that releases them all, of as many authors or of few.
 fn wide(rng: &mut Rng, census: &mut Census) -> Check {
     let authors = rng.pick(&[10, 31, 32, 64, 128]);
-    let universe = Universe::of(rng, &[1], 0);
-    let mut rows: Vec<BatchRow> = Vec::new();
-    for i in 0..128 {
-        let mut row = universe.row(rng, 2 + i % authors, 1 + i / authors);
-        row.deps = vec![(1, 1)];
-        rows.push(BatchRow::new(row));
-    }
-    let mut gate = universe.row(rng, 1, 1);
-    gate.deps.clear();
-    rows[64 + rng.below(64)] = BatchRow::new(gate);
     let capacity = rng.pick(&[127, 128, 140]);
     let mut joined = Joined::new(ReplicatedLog::new(), capacity);
-    for batch in rows.chunks(64) {
-        let offer = Offer {
-            limits: MergeLimits::default(),
-            time: u64::MAX,
-            rows: batch.to_vec(),
-        };
+    for offer in gated(rng, authors) {
         census.note(&joined.batch(rng, &offer)?);
     }
     Ok(())
