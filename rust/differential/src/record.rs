@@ -20,6 +20,8 @@
 //! After it scratch is zero, and the output begins with the lines; its other bytes are 165 still. A local row is inserted
 //! into the log.
 //!
+//! A first block has at most 2,048 bytes, a second one and an output 2,304, scratch 90,112, and a log area 128 slots.
+//!
 //! The check number of an area: 0 at first; then for each word of the area, from the first on, it is rotated left by 5 bits,
 //! and the word is added, modulo 2^64.
 
@@ -169,6 +171,7 @@ impl Store<'_> {
 
     /// One record, of what the original holds now.
     fn put(&mut self, kind: u64, numbers: &[u64], told: &MergeTold, blocks: [&[u8]; 2]) {
+        assert!(blocks[0].len() <= 2_048 && blocks[1].len() <= 2_304);
         self.areas.write(&self.original.content());
         let mut head = [0; HEAD];
         head[0] = kind;
