@@ -134,11 +134,15 @@ cuwelfra_number_read cuwelfra_get_count(const uint8_t *s, size_t s_len, size_t a
 cuwelfra_part_read cuwelfra_get_bytes(const uint8_t *s, size_t s_len, size_t at, uint64_t max);
 /* 25 when bytes remain. */
 cuwelfra_told cuwelfra_finish(const uint8_t *s, size_t s_len, size_t at);
+/* How many bytes remain. */
+uint64_t cuwelfra_remaining(const uint8_t *s, size_t s_len, size_t at);
 /* Writes at the start of out. */
 cuwelfra_written cuwelfra_encode_envelope(uint8_t *out, size_t out_len, uint64_t sender, const uint8_t *body,
                                           size_t body_len, const uint8_t *sig, size_t sig_len);
 /* The envelope must fill all of s. */
 cuwelfra_envelope_read cuwelfra_decode_envelope(const uint8_t *s, size_t s_len);
+/* The same, read by one reader. */
+cuwelfra_envelope_read cuwelfra_read_envelope(const uint8_t *s, size_t s_len);
 
 /* ---- Stamps and the hybrid clock, which goes in by value and comes back moved on */
 

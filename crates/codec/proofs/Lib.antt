@@ -1,6 +1,13 @@
 pub mod Shortest
 pub mod Steps
-pub mod Reader
+pub mod Groups
 pub mod Writer
 pub mod Laws
 pub mod Appended
+pub mod Taken
+pub mod Apart
+pub mod WalkNumber
+pub mod WalkLook
+pub mod Lent
+pub mod Through
+pub mod Seeing

@@ -3,3 +3,4 @@ pub mod Reading
 pub mod Writing
 pub mod Envelopes
 pub mod Parts
+pub mod Readers

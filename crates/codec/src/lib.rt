@@ -1,5 +1,6 @@
 // From src/codec.rs and the Envelope of src/sync.rs: varints, and what a reader and a writer do at a position of a slice.
 pub mod raw;
+pub mod reader; // a reader that refers to the bytes
 
 use error::Refusal;
 use stubs::ActorId;

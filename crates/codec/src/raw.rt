@@ -1,13 +1,21 @@
 // No call of document 01: the parts of this crate's calls. Those that write require that the room is there, and serve the
-// crates above, which have tested that.
+// crates above, which have tested that; `part_of` requires a part that was read.
+use crate::EnvelopeRead;
+use crate::Finished;
+use crate::NumberRead;
+use crate::PartRead;
 use crate::Written;
 use error::Refusal;
+use stubs::ActorId;
 ghost use mathlib.Core.Path.{_≡_};
-ghost use Prim.Native.Nat.{_+_, _%_, _≤_};
+ghost use Prim.Native.Nat.{_+_, _-_, _%_, _≤_};
 ghost use lib.ListN.{length};
 ghost use Rattle.codec.specs.Leb128.{shortest};
 ghost use Rattle.codec.specs.Writing.{writtenOf, sized};
 ghost use Rattle.codec.specs.Parts.{room, sizedLength, Stored};
+ghost use Rattle.codec.specs.Reading.{gotNumber, gotPart, finishedAt};
+ghost use Rattle.codec.specs.Envelopes.{envelopeOf};
+ghost use Rattle.codec.specs.Readers.{past, Within, partIn, envelopeBy};
 
 // The low seven bits of a number: the last byte of its varint.
 fn low7(v: u64) -> u8
@@ -70,5 +78,89 @@ pub fn past_sized(len: usize, at: usize, n: usize) -> Written
     match start {
         Written::Next(next) => past(len, next, n),
         Written::Refused(r) => Written::Refused(r),
+    }
+}
+
+// The position past a number that was read, `at` where it was refused.
+pub fn past_number(read: NumberRead, at: usize) -> usize
+    ensures { λ r. ⌜ r ≡ past at (gotNumber read) ⌝ }
+{
+    match read {
+        NumberRead::Value { value: _, next } => next,
+        NumberRead::Refused(_) => at,
+    }
+}
+
+// The position past a part that was read, `at` where it was refused.
+pub fn past_part(read: PartRead, at: usize) -> usize
+    ensures { λ r. ⌜ r ≡ past at (gotPart read) ⌝ }
+{
+    match read {
+        PartRead::Part {
+            start: _,
+            len: _,
+            next,
+        } => next,
+        PartRead::Refused(_) => at,
+    }
+}
+
+// The part of s that was read, empty where it was refused.
+pub fn part_of(s: &[u8], read: PartRead) -> &[u8]
+    requires { ⌜ Within (length (now s)) (gotPart read) ⌝ }
+    ensures { λ r. ⌜ now r ≡ partIn (now (s .entry)) (gotPart read) ⌝ }
+{
+    let PartRead::Part {
+        start,
+        len,
+        next: _,
+    } = read
+    else {
+        return &s[0..0];
+    };
+    let end = start + len;
+    &s[start..end]
+}
+
+// How many bytes remain from `at` on.
+pub fn left(s: &[u8], at: usize) -> usize
+    ensures { λ r. ⌜ r ≡ length (now (s .entry)) - at ⌝ }
+{
+    if at < s.len() {
+        return s.len() - at;
+    }
+    0
+}
+
+// The envelope of four reads, one behind the other; where one is refused, the first refusal.
+pub fn envelope_of(sender: NumberRead, body: PartRead, sig: PartRead, end: Finished) -> EnvelopeRead
+    ensures { λ r. ⌜ envelopeOf r ≡ envelopeBy (gotNumber sender) (gotPart body) (gotPart sig) (finishedAt 0 end) ⌝ }
+{
+    match sender {
+        NumberRead::Refused(r) => EnvelopeRead::Refused(r),
+        NumberRead::Value { value, next: _ } => match body {
+            PartRead::Refused(r) => EnvelopeRead::Refused(r),
+            PartRead::Part {
+                start: body_at,
+                len: body_len,
+                next: _,
+            } => match sig {
+                PartRead::Refused(r) => EnvelopeRead::Refused(r),
+                PartRead::Part {
+                    start: sig_at,
+                    len: sig_len,
+                    next: _,
+                } => match end {
+                    Finished::Refused(r) => EnvelopeRead::Refused(r),
+                    Finished::Done => EnvelopeRead::Envelope {
+                        sender: ActorId(value),
+                        body_at,
+                        body_len,
+                        sig_at,
+                        sig_len,
+                    },
+                },
+            },
+        },
     }
 }

@@ -8,6 +8,7 @@ use error::Told;
 use stubs::ActorId;
 ghost use mathlib.Core.Path.{_≡_};
 ghost use mathlib.Core.List.{[], _∷_};
+ghost use Prim.Native.Nat.{_-_};
 ghost use lib.ListN.{length};
 ghost use Rattle.error.specs.Answer.{toldBy};
 ghost use Rattle.codec.specs.Leb128.{shortest};
@@ -142,14 +143,14 @@ pub extern "C" fn cuwelfra_put_bytes(out: &mut [u8], at: usize, bytes: &[u8]) ->
 pub extern "C" fn cuwelfra_get_u8(s: &[u8], at: usize) -> NumberTold
     ensures { λ r. ⌜ r ≡ numberTold (getU8 (now (s .entry)) at) ⌝ }
 {
-    number(codec::get_u8(s, at))
+    number(codec::reader::get_u8(s, at))
 }
 
 #[no_mangle]
 pub extern "C" fn cuwelfra_get_varint(s: &[u8], at: usize) -> NumberTold
     ensures { λ r. ⌜ r ≡ numberTold (getVarint (now (s .entry)) at) ⌝ }
 {
-    number(codec::get_varint(s, at))
+    number(codec::reader::get_varint(s, at))
 }
 
 #[no_mangle]
@@ -163,25 +164,33 @@ pub extern "C" fn cuwelfra_get_u32(s: &[u8], at: usize) -> NumberTold
 pub extern "C" fn cuwelfra_get_count(s: &[u8], at: usize, max: u64) -> NumberTold
     ensures { λ r. ⌜ r ≡ numberTold (getCount (now (s .entry)) at max) ⌝ }
 {
-    number(codec::get_count(s, at, max))
+    number(codec::reader::get_count(s, at, max))
 }
 
 #[no_mangle]
 pub extern "C" fn cuwelfra_get_bytes(s: &[u8], at: usize, max: u64) -> PartTold
     ensures { λ r. ⌜ r ≡ partTold (getBytes (now (s .entry)) at max) ⌝ }
 {
-    part(codec::get_bytes(s, at, max))
+    part(codec::reader::get_bytes(s, at, max))
 }
 
 #[no_mangle]
 pub extern "C" fn cuwelfra_finish(s: &[u8], at: usize) -> Told
     ensures { λ r. ⌜ r ≡ toldBy (finish (now (s .entry)) at) ⌝ }
 {
-    let f = codec::finish(s, at);
+    let f = codec::reader::finish(s, at);
     match f {
         Finished::Done => accept(),
         Finished::Refused(refusal) => error::tell(refusal),
     }
+}
+
+// How many bytes remain.
+#[no_mangle]
+pub extern "C" fn cuwelfra_remaining(s: &[u8], at: usize) -> u64
+    ensures { λ r. ⌜ r ≡ length (now (s .entry)) - at ⌝ }
+{
+    codec::reader::remaining(s, at) as u64
 }
 
 #[no_mangle]
@@ -230,4 +239,12 @@ pub extern "C" fn cuwelfra_decode_envelope(s: &[u8]) -> EnvelopeTold
     ensures { λ r. ⌜ r ≡ envelopeTold (readEnvelope (now (s .entry))) ⌝ }
 {
     envelope_told(codec::decode_envelope(s))
+}
+
+// The same, read by one reader over the slice.
+#[no_mangle]
+pub extern "C" fn cuwelfra_read_envelope(s: &[u8]) -> EnvelopeTold
+    ensures { λ r. ⌜ r ≡ envelopeTold (readEnvelope (now (s .entry))) ⌝ }
+{
+    envelope_told(codec::reader::read_envelope(s))
 }

@@ -127,7 +127,7 @@ pub extern "C" fn cuwelfra_peer_record_ping(area: &mut [u8], ms: u64) -> Told
     if !is_state(area) {
         return error::tell(Refusal::UnsoundStore);
     }
-    let changed = peer::raw::load_peer(area).record_ping(ms);
+    let changed = peer::inplace::record_ping(peer::raw::load_peer(area), ms);
     keep_peer(area, changed)
 }
 
@@ -141,7 +141,7 @@ pub extern "C" fn cuwelfra_peer_take_pong(area: &mut [u8], nonce: u64) -> Told
     if !is_state(area) {
         return error::tell(Refusal::UnsoundStore);
     }
-    let changed = peer::raw::load_peer(area).take_pong(nonce);
+    let changed = peer::inplace::take_pong(peer::raw::load_peer(area), nonce);
     keep_peer(area, changed)
 }
 

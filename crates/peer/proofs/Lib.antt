@@ -3,3 +3,4 @@ pub mod Taking
 pub mod Calling
 pub mod Stored
 pub mod Counting
+pub mod Lending

@@ -168,6 +168,9 @@ unfoldable pub pendingOpsCall : Peer → Areas → Answer ℕ
 pendingOpsCall p a =
     andThen (readStore a) (λ s. unless (peerSound p) UnsoundStore (done (pendingOps (entries (p .«remote_clock»)) (s .log))))
 
--- what the code's answer stands for
+-- what the code's answers stand for: an outcome and the record afterwards, apart or in one
+abbrev pub called : Outcome → Peer → PeerCalled
+called o p = record { answer = outcomeOf o; peer = p }
+
 abbrev pub calledOf : PeerAnswer → PeerCalled
-calledOf r = record { answer = outcomeOf (r .outcome); peer = r .peer }
+calledOf r = called (r .outcome) (r .peer)

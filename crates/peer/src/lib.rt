@@ -1,4 +1,5 @@
 // From src/peer.rs: what is known of one peer.
+pub mod inplace; // pings and pongs in a record that is lent
 mod nonces; // lists of nonces
 mod pending; // rows that a peer lacks
 pub mod raw; // a peer in a lent area
@@ -138,7 +139,7 @@ fn with_pings(p: Peer, ping: u64, outstanding: Pings, answered: Pings) -> Peer
 }
 
 // The record with one more ping outstanding.
-fn pinged(p: Peer, now: u64) -> Peer
+fn with_ping(p: Peer, now: u64) -> Peer
     requires { ⌜ (p .outstanding .count ≤ 8) × (p .answered .count ≤ 8) ⌝ }
     ensures { λ r. ⌜ r ≡ withPings p now (push (nonces (p .outstanding)) now) (nonces (p .answered)) ⌝ }
 {
@@ -275,19 +276,19 @@ impl Peer {
         done(with_clock(self, clock))
     }
 
-    // Records a ping sent at `now`, its nonce. Only the most recent few are kept.
-    pub fn record_ping(self, now: u64) -> PeerAnswer
+    // The record once a ping is sent at `now`, its nonce. Only the most recent few are kept.
+    pub fn pinged(self, now: u64) -> PeerAnswer
         ensures { λ r. ⌜ calledOf r ≡ recordPingCall self now ⌝ }
     {
         if !self.is_sound() {
             return refuse(self, Refusal::UnsoundStore);
         }
-        done(pinged(self, now))
+        done(with_ping(self, now))
     }
 
-    // Takes the pong with this nonce. A repeat of a recent answer is a duplicated frame and changes nothing; any other
-    // nonce that is not outstanding is refused.
-    pub fn take_pong(self, nonce: u64) -> PeerAnswer
+    // The record once the pong with this nonce is taken. A repeat of a recent answer is a duplicated frame and changes
+    // nothing; any other nonce that is not outstanding is refused.
+    pub fn ponged(self, nonce: u64) -> PeerAnswer
         ensures { λ r. ⌜ calledOf r ≡ takePongCall self nonce ⌝ }
     {
         if !self.is_sound() {

@@ -106,6 +106,11 @@ pub fn finish(s: &[u8], at: usize) -> Told {
     unsafe { ffi::cuwelfra_finish(s.as_ptr(), s.len(), at) }
 }
 
+/// How many bytes remain; none past the end.
+pub fn remaining(s: &[u8], at: usize) -> u64 {
+    unsafe { ffi::cuwelfra_remaining(s.as_ptr(), s.len(), at) }
+}
+
 /// Writes an envelope at the start of `out`.
 pub fn encode_envelope(out: &mut [u8], sender: u64, body: &[u8], sig: &[u8]) -> Written {
     unsafe {
@@ -124,4 +129,9 @@ pub fn encode_envelope(out: &mut [u8], sender: u64, body: &[u8], sig: &[u8]) -> 
 /// Reads the envelope that fills all of `s`.
 pub fn decode_envelope(s: &[u8]) -> EnvelopeRead {
     unsafe { ffi::cuwelfra_decode_envelope(s.as_ptr(), s.len()) }
+}
+
+/// The same, read by one reader.
+pub fn read_envelope(s: &[u8]) -> EnvelopeRead {
+    unsafe { ffi::cuwelfra_read_envelope(s.as_ptr(), s.len()) }
 }

@@ -21,6 +21,7 @@ extern "C" {
     pub fn cuwelfra_get_count(s: *const u8, s_len: usize, at: usize, max: u64) -> NumberRead;
     pub fn cuwelfra_get_bytes(s: *const u8, s_len: usize, at: usize, max: u64) -> PartRead;
     pub fn cuwelfra_finish(s: *const u8, s_len: usize, at: usize) -> Told;
+    pub fn cuwelfra_remaining(s: *const u8, s_len: usize, at: usize) -> u64;
     pub fn cuwelfra_encode_envelope(
         out: *mut u8,
         out_len: usize,
@@ -31,6 +32,7 @@ extern "C" {
         sig_len: usize,
     ) -> Written;
     pub fn cuwelfra_decode_envelope(s: *const u8, s_len: usize) -> EnvelopeRead;
+    pub fn cuwelfra_read_envelope(s: *const u8, s_len: usize) -> EnvelopeRead;
 
     // Stamps and the hybrid clock.
     pub fn cuwelfra_timestamp_cmp(

@@ -29,7 +29,7 @@ impl<'a> Reader<'a> {
 
     /// How many bytes are left.
     pub fn remaining(&self) -> usize {
-        self.bytes.len() - self.at
+        sys::remaining(self.bytes, self.at) as usize
     }
 
     /// Reads one byte; 22.

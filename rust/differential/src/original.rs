@@ -114,6 +114,10 @@ pub fn get_bytes(s: &[u8], at: usize, max: u64) -> PartRead {
     }
 }
 
+pub fn remaining(s: &[u8], at: usize) -> u64 {
+    reader(s, at).remaining() as u64
+}
+
 pub fn finish(s: &[u8], at: usize) -> Told {
     match reader(s, at).finish() {
         Ok(()) => Told::default(),

@@ -151,6 +151,9 @@ fn decoded_as(frame: &[u8], inputs: impl Fn() -> String) -> Check {
         },
     };
     agree(&sys::decode_envelope(frame), &expected, &inputs)?;
+    agree(&sys::read_envelope(frame), &expected, || {
+        format!("{}, by one reader", inputs())
+    })?;
     let port = cuwelfra::Envelope::decode(frame);
     let same = match (&port, &original) {
         (Ok(port), Ok(original)) => same_parts(port, original),

@@ -63,7 +63,9 @@ fn numbers(s: &[u8], at: usize) -> Outcome {
     agree(&sys::get_u32(s, at), &short, inputs("get_u32"))?;
     let end = original::finish(s, at);
     agree(&sys::finish(s, at), &end, inputs("finish"))?;
-    Ok(4)
+    let left = original::remaining(s, at);
+    agree(&sys::remaining(s, at), &left, inputs("remaining"))?;
+    Ok(5)
 }
 
 fn limited(s: &[u8], at: usize, max: u64) -> Outcome {

@@ -5,7 +5,7 @@ use Rattle.cuwelfra.proofs.bytes.cuwelfra_finish.Statement.{statement}
 use Rattle.cuwelfra.proofs.bytes.cuwelfra_finish.Tie as tie
 use Rattle.cuwelfra.proofs.bytes.cuwelfra_finish.Reads as reads
 use Rattle.cuwelfra.proofs.bytes.cuwelfra_finish.Lts as lts
-use Rattle.codec.proofs.finish.Reads as finish-reads
+use Rattle.codec.proofs.reader.finish.Reads as finish-reads
 use Rattle.cuwelfra.proofs.bytes.accept.Reads as accept-reads
 use Rattle.error.proofs.tell.Reads as tell-reads
 

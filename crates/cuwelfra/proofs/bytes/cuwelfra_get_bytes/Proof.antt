@@ -5,7 +5,7 @@ use Rattle.cuwelfra.proofs.bytes.cuwelfra_get_bytes.Statement.{statemen
 use Rattle.cuwelfra.proofs.bytes.cuwelfra_get_bytes.Tie as tie
 use Rattle.cuwelfra.proofs.bytes.cuwelfra_get_bytes.Reads as reads
 use Rattle.cuwelfra.proofs.bytes.cuwelfra_get_bytes.Lts as lts
-use Rattle.codec.proofs.get_bytes.Reads as get-bytes-reads
+use Rattle.codec.proofs.reader.get_bytes.Reads as get-bytes-reads
 use Rattle.cuwelfra.proofs.bytes.part.Reads as part-reads
 
 -- src/bytes.rt:173:10

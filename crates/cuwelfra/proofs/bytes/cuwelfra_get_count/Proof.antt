@@ -5,7 +5,7 @@ use Rattle.cuwelfra.proofs.bytes.cuwelfra_get_count.Statement.{statemen
 use Rattle.cuwelfra.proofs.bytes.cuwelfra_get_count.Tie as tie
 use Rattle.cuwelfra.proofs.bytes.cuwelfra_get_count.Reads as reads
 use Rattle.cuwelfra.proofs.bytes.cuwelfra_get_count.Lts as lts
-use Rattle.codec.proofs.get_count.Reads as get-count-reads
+use Rattle.codec.proofs.reader.get_count.Reads as get-count-reads
 use Rattle.cuwelfra.proofs.bytes.number.Reads as number-reads
 
 -- src/bytes.rt:166:12

@@ -5,7 +5,7 @@ use Rattle.cuwelfra.proofs.bytes.cuwelfra_get_u8.Statement.{statement}
 use Rattle.cuwelfra.proofs.bytes.cuwelfra_get_u8.Tie as tie
 use Rattle.cuwelfra.proofs.bytes.cuwelfra_get_u8.Reads as reads
 use Rattle.cuwelfra.proofs.bytes.cuwelfra_get_u8.Lts as lts
-use Rattle.codec.proofs.get_u8.Reads as get-u8-reads
+use Rattle.codec.proofs.reader.get_u8.Reads as get-u8-reads
 use Rattle.cuwelfra.proofs.bytes.number.Reads as number-reads
 
 -- src/bytes.rt:145:12

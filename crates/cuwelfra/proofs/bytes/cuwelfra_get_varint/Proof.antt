@@ -5,7 +5,7 @@ use Rattle.cuwelfra.proofs.bytes.cuwelfra_get_varint.Statement.{stateme
 use Rattle.cuwelfra.proofs.bytes.cuwelfra_get_varint.Tie as tie
 use Rattle.cuwelfra.proofs.bytes.cuwelfra_get_varint.Reads as reads
 use Rattle.cuwelfra.proofs.bytes.cuwelfra_get_varint.Lts as lts
-use Rattle.codec.proofs.get_varint.Reads as get-varint-reads
+use Rattle.codec.proofs.reader.get_varint.Reads as get-varint-reads
 use Rattle.cuwelfra.proofs.bytes.number.Reads as number-reads
 
 -- src/bytes.rt:152:12

@@ -11,7 +11,7 @@ use Rattle.cuwelfra.proofs.peers.cuwelfra_peer_record_ping.Lts as lts
 use Rattle.cuwelfra.proofs.peers.is_state.Reads as is-state-reads
 use Rattle.cuwelfra.proofs.peers.keep_peer.Reads as keep-peer-reads
 use Rattle.error.proofs.tell.Reads as tell-reads
-use Rattle.peer.proofs.Peer.record_ping.Reads as record-ping-reads
+use Rattle.peer.proofs.inplace.record_ping.Reads as record-ping-reads
 use Rattle.peer.proofs.raw.load_peer.Reads as load-peer-reads
 
 -- src/peers.rt:124:9

@@ -11,7 +11,7 @@ use Rattle.cuwelfra.proofs.peers.cuwelfra_peer_take_pong.Lts as lts
 use Rattle.cuwelfra.proofs.peers.is_state.Reads as is-state-reads
 use Rattle.cuwelfra.proofs.peers.keep_peer.Reads as keep-peer-reads
 use Rattle.error.proofs.tell.Reads as tell-reads
-use Rattle.peer.proofs.Peer.take_pong.Reads as take-pong-reads
+use Rattle.peer.proofs.inplace.take_pong.Reads as take-pong-reads
 use Rattle.peer.proofs.raw.load_peer.Reads as load-peer-reads
 
 -- src/peers.rt:138:9

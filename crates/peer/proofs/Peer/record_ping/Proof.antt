@@ -1,33 +1,23 @@
-use mathlib.Core.Path.{sym, _∙_}
-use borrow.Author.Tests.{not-true, not-false}
-use Rattle.peer.proofs.Calling.{few-sent, few-answered, on-sound, unsound}
-use Rattle.peer.specs.Peers.{became}
+-- `Peer::record_ping` meets its contract: the walk `changes`, over `pinged`.
+-- Assumes nothing.
+use contract.Running.{givenOf, tables, tablesOf}
+use denote.Triple.Spec.{tripleOf}
+use denote.Triple.Table.{entered, cited}
 use Rattle.peer.specs.Peers.{recordPingCall}
-use borrow.Author.Needs.{needs}
-use Rattle.peer.proofs.Peer.record_ping.Statement.{statement}
-use Rattle.peer.proofs.Peer.record_ping.Tie as tie
+use Rattle.peer.proofs.Lending.{changes}
+use Rattle.peer.proofs.Peer.pinged as pinged
+use Rattle.peer.proofs.Peer.pinged.Symbol as pinged-def
+use Rattle.peer.proofs.Peer.pinged.Symbol.{name as #pinged}
+use Rattle.peer.proofs.Peer.pinged.Met as pinged-thm
+use Rattle.peer.proofs.Peer.record_ping.Key.{name as #record-ping}
+use Rattle.peer.proofs.Peer.record_ping as self
+use Rattle.peer.proofs.Peer.record_ping.Statement as stated
+use Rattle.peer.proofs.Peer.record_ping.Code as code
 
-is-sound-requires : tie.Need-is-sound-requires
-is-sound-requires c κs = search needs
-
-refuse-requires : tie.Need-refuse-requires
-refuse-requires c κs = search needs
-
-returns : tie.Need-returns
-unfolding recordPingCall
-returns c = unsound (c .before .before .before .args .self) _ _ (sym (c .before .before .is-sound .ensures) ∙ not-true _ (c .before .if1 .taken)) (c .refuse .ensures)
-
-pinged-requires : tie.Need-pinged-requires
-pinged-requires c κs = (few-sent _ (sym (c .before .is-sound .ensures) ∙ not-false _ (c .if1 .left)), few-answered _ (sym (c .before .is-sound .ensures) ∙ not-false _ (c .if1 .left)))
-
-done-requires : tie.Need-done-requires
-done-requires c κs = search needs
-
-returns-2 : tie.Need-returns-2
-unfolding recordPingCall
-returns-2 c = on-sound (c .before .before .before .before .args .self) (sym (c .before .before .before .is-sound .ensures) ∙ not-false _ (c .before .before .if1 .left)) _ _ (c .done .ensures ∙ (λ i. became (c .before .pinged .ensures i)))
-
-pub record-ping-spec : {M : Type 1} → statement M
-record-ping-spec =
-    tie.close
-    (tie.spec is-sound-requires refuse-requires returns pinged-requires done-requires returns-2)
+pub record-ping-spec : {M : Type 1} → stated.statement M
+unfolding code.routine tablesOf
+record-ping-spec 𝓤 H 𝓜 𝓖 𝓡 =
+    entered 𝓤 H (tripleOf 𝓤 H (𝓖 .A) self.signature (self.spec 𝓤 H (𝓖 .A) (𝓜 .mem) (𝓡 .run)))
+    (tables 𝓤 H 𝓜 𝓡 code.env .C) (tables 𝓤 H 𝓜 𝓡 code.env .Λ) #record-ping code.function (code.unfolded 𝓤 H 𝓜 𝓡)
+    (changes recordPingCall #pinged 𝓤 H (𝓖 .A) (givenOf 𝓤 H 𝓜 𝓖) (tablesOf 𝓤 H 𝓜 (tables 𝓤 H 𝓜 𝓡 code.env))
+    (cited 𝓤 H (tripleOf 𝓤 H (𝓖 .A) pinged.signature (pinged.spec 𝓤 H (𝓖 .A) (𝓜 .mem) (𝓡 .run))) 𝓜 𝓡 code.env #pinged pinged-def.routine code.calls-peer·Peer·pinged (pinged-thm.met 𝓤 H 𝓜 𝓖 𝓡)))

@@ -1,28 +1,23 @@
-use mathlib.Core.Path.{sym, _∙_}
-use borrow.Author.Tests.{not-true, not-false}
-use Rattle.peer.proofs.Calling.{few-sent, few-answered, on-sound, unsound}
+-- `Peer::take_pong` meets its contract: the walk `changes`, over `ponged`.
+-- Assumes nothing.
+use contract.Running.{givenOf, tables, tablesOf}
+use denote.Triple.Spec.{tripleOf}
+use denote.Triple.Table.{entered, cited}
 use Rattle.peer.specs.Peers.{takePongCall}
-use borrow.Author.Needs.{needs}
-use Rattle.peer.proofs.Peer.take_pong.Statement.{statement}
-use Rattle.peer.proofs.Peer.take_pong.Tie as tie
+use Rattle.peer.proofs.Lending.{changes}
+use Rattle.peer.proofs.Peer.ponged as ponged
+use Rattle.peer.proofs.Peer.ponged.Symbol as ponged-def
+use Rattle.peer.proofs.Peer.ponged.Symbol.{name as #ponged}
+use Rattle.peer.proofs.Peer.ponged.Met as ponged-thm
+use Rattle.peer.proofs.Peer.take_pong.Key.{name as #take-pong}
+use Rattle.peer.proofs.Peer.take_pong as self
+use Rattle.peer.proofs.Peer.take_pong.Statement as stated
+use Rattle.peer.proofs.Peer.take_pong.Code as code
 
-is-sound-requires : tie.Need-is-sound-requires
-is-sound-requires c κs = search needs
-
-refuse-requires : tie.Need-refuse-requires
-refuse-requires c κs = search needs
-
-returns : tie.Need-returns
-unfolding takePongCall
-returns c = unsound (c .before .before .before .args .self) _ _ (sym (c .before .before .is-sound .ensures) ∙ not-true _ (c .before .if1 .taken)) (c .refuse .ensures)
-
-taken-requires : tie.Need-taken-requires
-taken-requires c κs = (few-sent _ (sym (c .before .is-sound .ensures) ∙ not-false _ (c .if1 .left)), few-answered _ (sym (c .before .is-sound .ensures) ∙ not-false _ (c .if1 .left)))
-
-returns-2 : tie.Need-returns-2
-unfolding takePongCall
-returns-2 c = on-sound (c .before .before .before .args .self) (sym (c .before .before .is-sound .ensures) ∙ not-false _ (c .before .if1 .left)) _ _ (c .taken .ensures)
-
-pub take-pong-spec : {M : Type 1} → statement M
-take-pong-spec =
-    tie.close (tie.spec is-sound-requires refuse-requires returns taken-requires returns-2)
+pub take-pong-spec : {M : Type 1} → stated.statement M
+unfolding code.routine tablesOf
+take-pong-spec 𝓤 H 𝓜 𝓖 𝓡 =
+    entered 𝓤 H (tripleOf 𝓤 H (𝓖 .A) self.signature (self.spec 𝓤 H (𝓖 .A) (𝓜 .mem) (𝓡 .run)))
+    (tables 𝓤 H 𝓜 𝓡 code.env .C) (tables 𝓤 H 𝓜 𝓡 code.env .Λ) #take-pong code.function (code.unfolded 𝓤 H 𝓜 𝓡)
+    (changes takePongCall #ponged 𝓤 H (𝓖 .A) (givenOf 𝓤 H 𝓜 𝓖) (tablesOf 𝓤 H 𝓜 (tables 𝓤 H 𝓜 𝓡 code.env))
+    (cited 𝓤 H (tripleOf 𝓤 H (𝓖 .A) ponged.signature (ponged.spec 𝓤 H (𝓖 .A) (𝓜 .mem) (𝓡 .run))) 𝓜 𝓡 code.env #ponged ponged-def.routine code.calls-peer·Peer·ponged (ponged-thm.met 𝓤 H 𝓜 𝓖 𝓡)))
