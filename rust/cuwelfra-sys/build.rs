@@ -1,4 +1,4 @@
-//! Links the proved static library.
+//! Links the proved static library, and tells the tests where it stands.
 
 use std::path::PathBuf;
 use std::{env, process};
@@ -17,6 +17,7 @@ fn main() {
         );
         process::exit(1);
     }
+    println!("cargo::rustc-env=CUWELFRA_ARCHIVE={}", library.display());
     println!("cargo::rustc-link-search=native={}", folder.display());
     println!("cargo::rustc-link-lib=static=cuwelfra");
 }
