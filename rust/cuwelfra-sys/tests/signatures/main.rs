@@ -187,3 +187,21 @@ fn lines_with(texts: &[String], part: &str) -> usize {
         .filter(|line| line.contains(part))
         .count()
 }
+
+/// The example in C uses the whole header.
+#[test]
+fn the_example_in_c_calls_every_export() {
+    let example = tokens::tokens(&read(&root().join("c/example.c")));
+    let calls = example.windows(2).filter(|next| next[1].text == "(");
+    let calls: BTreeSet<&str> = calls.map(|next| next[0].text.as_str()).collect();
+    let exports = Texts::of_the_repository()
+        .exports()
+        .expect("readable exports");
+    for one in exports.functions {
+        assert!(
+            calls.contains(one.name.as_str()),
+            "c/example.c does not call {}",
+            one.name
+        );
+    }
+}

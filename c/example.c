@@ -1,0 +1,781 @@
+/* Every call of libcuwelfra.a from C, with the answer that it must give.
+ *
+ *     cc -std=c99 -Iinclude c/example.c -Ltarget/staticlib -lcuwelfra -o example && ./example
+ *
+ * The program prints each check that fails and how many there were; its status is 0 where none failed. What the bytes
+ * mean is in docs/LAYOUT.md, what the calls do in include/cuwelfra.h. */
+#include "cuwelfra.h"
+
+#include <inttypes.h>
+#include <stdio.h>
+#include <string.h>
+
+/* ---- Checks */
+
+/* The answers are structs of 64-bit words without gaps; a size that differs does not compile. */
+#define HAS_WORDS(type, words) typedef char type##_has_##words##_words[sizeof(type) == 8 * (words) ? 1 : -1]
+
+HAS_WORDS(cuwelfra_told, 3);
+HAS_WORDS(cuwelfra_number_read, 5);
+HAS_WORDS(cuwelfra_part_read, 6);
+HAS_WORDS(cuwelfra_written, 4);
+HAS_WORDS(cuwelfra_envelope_read, 8);
+HAS_WORDS(cuwelfra_hybrid, 4);
+HAS_WORDS(cuwelfra_issued_stamp, 8);
+HAS_WORDS(cuwelfra_updated_clock, 5);
+HAS_WORDS(cuwelfra_clock_number, 4);
+HAS_WORDS(cuwelfra_stamp_told, 7);
+HAS_WORDS(cuwelfra_lookup_told, 6);
+HAS_WORDS(cuwelfra_op_told, 5);
+HAS_WORDS(cuwelfra_merge_told, 10);
+
+static int checks = 0;
+static int failures = 0;
+
+static void check_number(int line, const char *what, uint64_t is, uint64_t wanted)
+{
+    checks++;
+    if (is != wanted) {
+        failures++;
+        printf("line %d: %s is %" PRIu64 " and not %" PRIu64 "\n", line, what, is, wanted);
+    }
+}
+
+static void check_bytes(int line, const char *what, const uint8_t *is, const uint8_t *wanted, size_t len)
+{
+    size_t i = 0;
+    while (i < len && is[i] == wanted[i])
+        i++;
+    checks++;
+    if (i < len) {
+        failures++;
+        printf("line %d: byte %lu of %s is %02X and not %02X\n", line, (unsigned long)i, what, is[i], wanted[i]);
+    }
+}
+
+static void check_all(int line, const char *what, const uint8_t *is, size_t len, uint8_t wanted)
+{
+    size_t i = 0;
+    while (i < len && is[i] == wanted)
+        i++;
+    checks++;
+    if (i < len) {
+        failures++;
+        printf("line %d: byte %lu of %s is %02X and not %02X\n", line, (unsigned long)i, what, is[i], wanted);
+    }
+}
+
+static void check_told(int line, const char *what, cuwelfra_told is, uint64_t number, uint64_t first, uint64_t second)
+{
+    checks++;
+    if (is.number != number || is.first != first || is.second != second) {
+        failures++;
+        printf("line %d: %s is %" PRIu64 " (%" PRIu64 ", %" PRIu64 ") and not %" PRIu64 " (%" PRIu64 ", %" PRIu64 ")\n",
+               line, what, is.number, is.first, is.second, number, first, second);
+    }
+}
+
+/* A number; the first bytes of an area; all its bytes from one on; an accepted call; a refusal with its two values. */
+#define IS(is, wanted) check_number(__LINE__, #is, is, wanted)
+#define STARTS(is, wanted) check_bytes(__LINE__, #is, is, wanted, sizeof(wanted))
+#define ALL_FROM(is, at, wanted) check_all(__LINE__, #is, (is) + (at), sizeof(is) - (at), wanted)
+#define ACCEPTED(told) check_told(__LINE__, #told, told, 0, 0, 0)
+#define REFUSED(told, number, first, second) check_told(__LINE__, #told, told, number, first, second)
+
+/* ---- Bytes: varints, parts with their length, envelopes */
+
+static void varints(void)
+{
+    static const uint8_t three_hundred[] = {0xAC, 0x02};
+    static const uint8_t greatest[] = {0xFF, 0xFF, 0xFF, 0xFF, 0xFF, 0xFF, 0xFF, 0xFF, 0xFF, 0x01};
+    static const uint8_t overlong[] = {0x80, 0x00};
+    uint8_t out[12];
+    cuwelfra_written written;
+    cuwelfra_number_read read;
+
+    memset(out, 0x5A, sizeof out);
+    written = cuwelfra_put_varint(out, sizeof out, 0, 300);
+    ACCEPTED(written.told);
+    IS(written.next, 2);
+    STARTS(out, three_hundred);
+    ALL_FROM(out, 2, 0x5A);
+    IS(cuwelfra_varint_len(300), 2);
+    read = cuwelfra_get_varint(out, sizeof out, 0);
+    ACCEPTED(read.told);
+    IS(read.value, 300);
+    IS(read.next, 2);
+
+    written = cuwelfra_put_varint(out, sizeof out, 0, UINT64_MAX);
+    IS(written.next, 10);
+    STARTS(out, greatest);
+    IS(cuwelfra_varint_len(UINT64_MAX), 10);
+    IS(cuwelfra_get_varint(out, sizeof out, 0).value, UINT64_MAX);
+    REFUSED(cuwelfra_get_u32(out, sizeof out, 0).told, 23, 0, 0);
+
+    /* The shortest form is written, any form is read. */
+    read = cuwelfra_get_varint(overlong, sizeof overlong, 0);
+    ACCEPTED(read.told);
+    IS(read.value, 0);
+    IS(read.next, 2);
+    REFUSED(cuwelfra_get_varint(overlong, 1, 0).told, 22, 0, 0);
+
+    /* Short of room: nothing is written. */
+    memset(out, 0x5A, sizeof out);
+    REFUSED(cuwelfra_put_varint(out, 1, 0, 300).told, 2, 0, 0);
+    ALL_FROM(out, 0, 0x5A);
+}
+
+static void parts(void)
+{
+    static const uint8_t term[] = {'t', 'e', 'r', 'm'};
+    static const uint8_t wanted[] = {9, 4, 't', 'e', 'r', 'm'};
+    uint8_t out[6];
+    cuwelfra_written written = cuwelfra_put_u8(out, sizeof out, 0, 9);
+    cuwelfra_part_read part;
+
+    written = cuwelfra_put_bytes(out, sizeof out, (size_t)written.next, term, sizeof term);
+    ACCEPTED(written.told);
+    IS(written.next, 6);
+    STARTS(out, wanted);
+
+    IS(cuwelfra_get_u8(out, sizeof out, 0).value, 9);
+    REFUSED(cuwelfra_get_u8(out, sizeof out, 6).told, 22, 0, 0);
+    IS(cuwelfra_get_count(out, sizeof out, 1, 4).value, 4);
+    REFUSED(cuwelfra_get_count(out, sizeof out, 1, 3).told, 24, 0, 0);
+    part = cuwelfra_get_bytes(out, sizeof out, 1, 4);
+    ACCEPTED(part.told);
+    IS(part.start, 2);
+    IS(part.len, 4);
+    IS(part.next, 6);
+    ACCEPTED(cuwelfra_finish(out, sizeof out, 6));
+    REFUSED(cuwelfra_finish(out, sizeof out, 5), 25, 0, 0);
+    IS(cuwelfra_remaining(out, sizeof out, 5), 1);
+}
+
+static void envelopes(void)
+{
+    static const uint8_t body[] = {1, 2, 3};
+    static const uint8_t sig[] = {0xC0, 0xC1};
+    static const uint8_t wanted[] = {7, 3, 1, 2, 3, 2, 0xC0, 0xC1};
+    uint8_t out[8];
+    cuwelfra_envelope_read read;
+
+    IS(cuwelfra_encode_envelope(out, sizeof out, 7, body, sizeof body, sig, sizeof sig).next, 8);
+    STARTS(out, wanted);
+    read = cuwelfra_decode_envelope(out, sizeof out);
+    ACCEPTED(read.told);
+    IS(read.sender, 7);
+    IS(read.body_at, 2);
+    IS(read.body_len, 3);
+    IS(read.sig_at, 6);
+    IS(read.sig_len, 2);
+    IS(cuwelfra_read_envelope(out, sizeof out).sig_at, 6);
+    REFUSED(cuwelfra_read_envelope(out, 7).told, 24, 0, 0);
+}
+
+/* ---- Clocks */
+
+/* The clock of author 1 at 10/3 (wall/counter) takes a stamp of author 2. */
+static cuwelfra_updated_clock receive(uint64_t remote_wall, uint64_t physical)
+{
+    return cuwelfra_hybrid_update(1, 10, 3, 60000, remote_wall, 7, 2, physical);
+}
+
+static void hybrid_clocks(void)
+{
+    cuwelfra_hybrid clock = cuwelfra_hybrid_new(1);
+    cuwelfra_updated_clock updated;
+    cuwelfra_issued_stamp issued;
+
+    IS(clock.actor, 1);
+    IS(clock.last_wall, 0);
+    IS(clock.last_counter, 0);
+    IS(clock.max_drift_ms, 60000);
+    clock = cuwelfra_hybrid_set_max_drift(1, 10, 3, 60000, 500);
+    IS(clock.last_wall, 10);
+    IS(clock.last_counter, 3);
+    IS(clock.max_drift_ms, 500);
+
+    /* Receiving. */
+    updated = receive(10, 10);
+    ACCEPTED(updated.told);
+    IS(updated.last_wall, 10);
+    IS(updated.last_counter, 8);
+    updated = receive(9, 10);
+    IS(updated.last_wall, 10);
+    IS(updated.last_counter, 4);
+    updated = receive(12, 10);
+    IS(updated.last_wall, 12);
+    IS(updated.last_counter, 8);
+    updated = receive(9, 13);
+    IS(updated.last_wall, 13);
+    IS(updated.last_counter, 0);
+
+    /* Beyond the drift: the refusal carries both walls, and the clock comes back as it was. */
+    updated = receive(60011, 10);
+    REFUSED(updated.told, 20, 60011, 10);
+    IS(updated.last_wall, 10);
+    IS(updated.last_counter, 3);
+
+    /* Sending. */
+    issued = cuwelfra_hybrid_now(1, 10, 3, 60000, 11);
+    ACCEPTED(issued.told);
+    IS(issued.wall_time, 11);
+    IS(issued.logical_counter, 0);
+    IS(issued.actor_id, 1);
+    issued = cuwelfra_hybrid_now(1, 10, 3, 60000, 9);
+    IS(issued.wall_time, 10);
+    IS(issued.logical_counter, 4);
+    IS(issued.last_wall, 10);
+    IS(issued.last_counter, 4);
+    issued = cuwelfra_hybrid_now(1, 10, UINT32_MAX, 60000, 9);
+    REFUSED(issued.told, 19, 0, 0);
+    IS(issued.last_counter, UINT32_MAX);
+
+    /* Stamps compare by wall, counter, author: 0 less, 1 equal, 2 greater. */
+    IS(cuwelfra_timestamp_cmp(10, 3, 1, 10, 4, 1), 0);
+    IS(cuwelfra_timestamp_cmp(10, 3, 1, 10, 3, 1), 1);
+    IS(cuwelfra_timestamp_cmp(10, 3, 2, 10, 3, 1), 2);
+}
+
+static void vector_clocks(void)
+{
+    /* {1: 2} as an area: the count, then author and number, eight big-endian bytes each. */
+    static const uint8_t wanted[] = {
+        0, 0, 0, 0, 0, 0, 0, 1, /* count */
+        0, 0, 0, 0, 0, 0, 0, 1, /* author */
+        0, 0, 0, 0, 0, 0, 0, 2, /* number */
+    };
+    uint8_t one[CUWELFRA_CLOCK_BYTES];
+    uint8_t two[CUWELFRA_CLOCK_BYTES];
+    uint8_t copy[CUWELFRA_CLOCK_BYTES];
+    cuwelfra_clock_number number;
+
+    memset(one, 0xFF, sizeof one);
+    ACCEPTED(cuwelfra_clock_new(one, sizeof one));
+    ACCEPTED(cuwelfra_clock_new(two, sizeof two));
+    ACCEPTED(cuwelfra_clock_observe(one, sizeof one, 1, 2));
+    STARTS(one, wanted);
+    ALL_FROM(one, sizeof wanted, 0);
+    number = cuwelfra_clock_increment(two, sizeof two, 2);
+    ACCEPTED(number.told);
+    IS(number.number, 1);
+
+    /* {1: 2} and {2: 1} are concurrent; {1: 2, 2: 1} covers both. */
+    number = cuwelfra_clock_compare(one, sizeof one, two, sizeof two);
+    ACCEPTED(number.told);
+    IS(number.number, 3);
+    IS(cuwelfra_clock_dominates(one, sizeof one, two, sizeof two).number, 0);
+    ACCEPTED(cuwelfra_clock_merge(one, sizeof one, two, sizeof two));
+    IS(cuwelfra_clock_dominates(one, sizeof one, two, sizeof two).number, 1);
+    IS(cuwelfra_clock_compare(one, sizeof one, two, sizeof two).number, 1);
+    IS(cuwelfra_clock_compare(two, sizeof two, one, sizeof one).number, 0);
+    IS(cuwelfra_clock_compare(two, sizeof two, two, sizeof two).number, 2);
+    IS(cuwelfra_clock_get(one, sizeof one, 1).number, 2);
+    IS(cuwelfra_clock_get(one, sizeof one, 9).number, 0);
+
+    /* An area one byte short, a number that cannot grow, a count above 32: refused, and the area stays. */
+    ACCEPTED(cuwelfra_clock_observe(two, sizeof two, 2, UINT64_MAX));
+    memcpy(copy, two, sizeof two);
+    REFUSED(cuwelfra_clock_new(two, sizeof two - 1), 2, 0, 0);
+    REFUSED(cuwelfra_clock_increment(two, sizeof two, 2).told, 19, 0, 0);
+    STARTS(two, copy);
+    two[7] = 33;
+    REFUSED(cuwelfra_clock_get(two, sizeof two, 2).told, 1, 0, 0);
+}
+
+/* ---- The store and its batches */
+
+enum { LOG_ROWS = 4 };
+
+/* Three areas; all zero is the empty store. */
+typedef struct {
+    uint8_t log[LOG_ROWS * CUWELFRA_SLOT_BYTES];
+    uint8_t held[CUWELFRA_HELD_BYTES];
+    uint8_t head[CUWELFRA_HEAD_BYTES];
+} store;
+
+/* A store's areas as the calls take them. */
+#define AREAS(s) (s).log, sizeof((s).log), (s).held, sizeof((s).held), (s).head, sizeof((s).head)
+
+static const store empty_store;
+static store desk;
+static store before;
+
+/* Room for four held and new rows. */
+static uint8_t scratch[4 * CUWELFRA_SCRATCH_BYTES];
+static uint8_t output[4 * CUWELFRA_LINE_BYTES];
+
+/* The settings of a batch call: the largest sizes, an hour of waiting, a minute of drift. */
+typedef struct {
+    uint64_t max_pending;
+    uint64_t max_pending_age_ms;
+} settings;
+
+static const settings usual = {64, 3600000};
+
+/* Applies a batch to the desk; scratch starts as rubbish and must be zero afterwards. */
+static cuwelfra_merge_told apply(settings with, uint64_t time_ms, const uint8_t *batch, size_t batch_len)
+{
+    cuwelfra_merge_told report;
+    memset(scratch, 0xFF, sizeof scratch);
+    memset(output, 0x5A, sizeof output);
+    report = cuwelfra_apply_remote_ops(with.max_pending, 64, 64 * 256, with.max_pending_age_ms, 60000, 16, 256, time_ms,
+                                       AREAS(desk), batch, batch_len, scratch, sizeof scratch, output, sizeof output);
+    ALL_FROM(scratch, 0, 0);
+    return report;
+}
+
+/* That a refused call has changed neither the desk, whose copy is in `before`, nor the output. */
+static void check_unchanged(void)
+{
+    STARTS(desk.log, before.log);
+    STARTS(desk.held, before.held);
+    STARTS(desk.head, before.head);
+    ALL_FROM(output, 0, 0x5A);
+}
+
+/* Two rows. The first is author 3's, and the policy has found it invalid; the second is author 2's and has a cause, row
+   1 of author 1, that has not come yet. Numbers are varints: 4,000 is 31 * 128 + 32, so A0 1F. */
+static const uint8_t first_batch[] = {
+    2,                     /* rows */
+    0xA0, 0x1F, 0, 3,      /* stamp: wall time 4,000, counter 0, author 3 */
+    3, 1,                  /* author 3, sequence 1 */
+    0,                     /* no dependency */
+    4, 'H', 'a', 'u', 's', /* payload: its length and its bytes */
+    1, 0xC3,               /* signature: its length and its bytes */
+    1, 4, 7,               /* verdict: verified; outcome: invalid; detail: text 7 */
+    0x88, 0x27, 1, 2,      /* stamp: wall time 5,000, counter 1, author 2 */
+    2, 1,                  /* author 2, sequence 1 */
+    1, 1, 1,               /* one dependency: author 1, sequence 1 */
+    3, 'm', 'o', 't',      /* payload */
+    2, 0xC4, 0xC5,         /* signature */
+    1, 0, 0,               /* verified; fits; no detail */
+};
+
+/* Where the second row of that batch starts. */
+enum { FIRST_ROW_AT = 1, SECOND_ROW_AT = 18 };
+
+/* The cause. */
+static const uint8_t second_batch[] = {
+    1,                     /* rows */
+    0x94, 0x23, 0, 1,      /* stamp: wall time 4,500, counter 0, author 1 */
+    1, 1,                  /* author 1, sequence 1 */
+    0,                     /* no dependency */
+    4, 'w', 'o', 'r', 'd', /* payload */
+    0,                     /* an empty signature */
+    1, 0, 0,               /* verified; fits; no detail */
+};
+
+/* Row 1 of author 2 once more, with another payload. */
+static const uint8_t conflicting_batch[] = {
+    1,                /* rows */
+    0x88, 0x27, 1, 2, /* stamp: wall time 5,000, counter 1, author 2 */
+    2, 1,             /* author 2, sequence 1 */
+    1, 1, 1,          /* one dependency: author 1, sequence 1 */
+    3, 'f', 'i', 'n', /* payload */
+    2, 0xC4, 0xC5,    /* signature */
+    1, 0, 0,          /* verified; fits; no detail */
+};
+
+/* The first row is logged, the second is held. */
+static void apply_first_batch(void)
+{
+    static const uint8_t line[] = {
+        0, 0, 0, 0, 0, 0, 0, 3, /* author */
+        0, 0, 0, 0, 0, 0, 0, 1, /* sequence */
+        5, 7,                   /* fate: rejected, with outcome 4; detail */
+    };
+    cuwelfra_merge_told report;
+
+    desk = empty_store;
+    report = apply(usual, 10000, first_batch, sizeof first_batch);
+    ACCEPTED(report.told);
+    IS(report.applied, 0);
+    IS(report.stale, 0);
+    IS(report.rejected, 1);
+    IS(report.duplicates, 0);
+    IS(report.held, 1);
+    IS(report.expired, 0);
+    IS(report.dropped, 0);
+    STARTS(output, line);
+    ALL_FROM(output, sizeof line, 0x5A);
+}
+
+static void a_row_waits_for_its_cause(void)
+{
+    static const uint8_t lines[] = {
+        0, 0, 0, 0, 0, 0, 0, 1, 0, 0, 0, 0, 0, 0, 0, 1, 0, 0, /* author 1, sequence 1: applied */
+        0, 0, 0, 0, 0, 0, 0, 2, 0, 0, 0, 0, 0, 0, 0, 1, 0, 0, /* author 2, sequence 1: applied */
+    };
+    static const uint8_t payload[] = {'m', 'o', 't'};
+    cuwelfra_merge_told report;
+    cuwelfra_lookup_told found;
+
+    apply_first_batch();
+    found = cuwelfra_lookup(AREAS(desk), 2, 1);
+    ACCEPTED(found.told);
+    IS(found.place, 2);
+    IS(found.slot, 0);
+    IS(found.len, 3);
+    STARTS(desk.held + 384, payload);
+
+    report = apply(usual, 11000, second_batch, sizeof second_batch);
+    ACCEPTED(report.told);
+    IS(report.applied, 2);
+    IS(report.rejected, 0);
+    IS(report.held, 0);
+    STARTS(output, lines);
+    ALL_FROM(output, sizeof lines, 0x5A);
+
+    /* The log is in the order of its stamps, so author 2's row is the third; the payload stands at 384 in its slot. */
+    found = cuwelfra_lookup(AREAS(desk), 2, 1);
+    IS(found.place, 1);
+    IS(found.slot, 2);
+    IS(found.len, 3);
+    STARTS(desk.log + found.slot * CUWELFRA_SLOT_BYTES + 384, payload);
+    IS(cuwelfra_lookup(AREAS(desk), 2, 2).place, 0);
+
+    /* What was logged is a duplicate from then on. */
+    report = apply(usual, 12000, first_batch, sizeof first_batch);
+    IS(report.duplicates, 2);
+    ALL_FROM(output, 0, 0x5A);
+}
+
+static void refused_batches(void)
+{
+    static const settings one_held = {1, 3600000};
+    static const settings none_held = {0, 3600000};
+    static const settings too_many = {65, 3600000};
+    static const uint8_t waiting[] = {1, 0x88, 0x27, 0, 4, 4, 2, 0, 0, 0, 1, 0, 0}; /* row 2 of author 4 */
+    uint8_t cut[sizeof first_batch];
+    cuwelfra_merge_told report;
+
+    apply_first_batch();
+    before = desk;
+
+    /* 13 carries author and sequence. */
+    report = apply(usual, 10000, conflicting_batch, sizeof conflicting_batch);
+    REFUSED(report.told, 13, 2, 1);
+    IS(report.held, 0);
+    check_unchanged();
+
+    /* 14 carries the limit. One held row passes limit 1, two do not. */
+    report = apply(one_held, 10000, waiting, sizeof waiting);
+    REFUSED(report.told, 14, 1, 0);
+    check_unchanged();
+    desk = empty_store;
+    before = desk;
+    report = apply(none_held, 10000, waiting, sizeof waiting);
+    REFUSED(report.told, 14, 0, 0);
+    check_unchanged();
+    report = apply(one_held, 10000, waiting, sizeof waiting);
+    ACCEPTED(report.told);
+    IS(report.held, 1);
+
+    /* 4 for a setting above its size; 3 for a batch that is cut short; 12 for a verdict of 0. */
+    apply_first_batch();
+    before = desk;
+    REFUSED(apply(too_many, 10000, first_batch, sizeof first_batch).told, 4, 0, 0);
+    check_unchanged();
+    REFUSED(apply(usual, 10000, first_batch, sizeof first_batch - 1).told, 3, 0, 0);
+    check_unchanged();
+    memcpy(cut, first_batch, sizeof cut);
+    cut[SECOND_ROW_AT - 3] = 0;
+    REFUSED(apply(usual, 10000, cut, sizeof cut).told, 12, 3, 1);
+    check_unchanged();
+}
+
+/* Applies the second batch with areas of these sizes: log, held, head, scratch, output. */
+static cuwelfra_told apply_within(const size_t *lens)
+{
+    cuwelfra_merge_told report;
+    memset(scratch, 0xFF, sizeof scratch);
+    memset(output, 0x5A, sizeof output);
+    report = cuwelfra_apply_remote_ops(64, 64, 64 * 256, 3600000, 60000, 16, 256, 10000, desk.log, lens[0], desk.held,
+                                       lens[1], desk.head, lens[2], second_batch, sizeof second_batch, scratch, lens[3],
+                                       output, lens[4]);
+    check_all(__LINE__, "scratch", scratch, lens[3], 0);
+    return report.told;
+}
+
+/* One row is held and the batch has one more, so output and scratch need room for two. */
+static void short_areas(void)
+{
+    size_t lens[] = {3 * CUWELFRA_SLOT_BYTES, CUWELFRA_HELD_BYTES, CUWELFRA_HEAD_BYTES, 2 * CUWELFRA_SCRATCH_BYTES,
+                     2 * CUWELFRA_LINE_BYTES};
+    size_t i;
+
+    apply_first_batch();
+    before = desk;
+
+    /* 2 for each area that is one byte short. */
+    for (i = 1; i < sizeof lens / sizeof *lens; i++) {
+        lens[i]--;
+        REFUSED(apply_within(lens), 2, 0, 0);
+        check_unchanged();
+        lens[i]++;
+    }
+    lens[0] = CUWELFRA_SLOT_BYTES - 1;
+    REFUSED(apply_within(lens), 2, 0, 0);
+    check_unchanged();
+
+    /* 17 where the log has room for two rows and three would be logged. With room for three the batch is accepted. */
+    lens[0] = 3 * CUWELFRA_SLOT_BYTES - 1;
+    REFUSED(apply_within(lens), 17, 0, 0);
+    check_unchanged();
+    lens[0]++;
+    ACCEPTED(apply_within(lens));
+}
+
+static void times(void)
+{
+    static const settings fifty_ms = {64, 50};
+    static const uint8_t no_row[] = {0};
+    uint8_t ahead[] = {1, 0xC8, 0xDC, 0x03, 0, 1, 1, 1, 0, 0, 0, 1, 0, 0}; /* row 1 of author 1 at 61,000 */
+    cuwelfra_merge_told report;
+
+    /* At time 1,000 with a drift of 60,000: 61,000 passes, 61,001 is 11. */
+    desk = empty_store;
+    ahead[1]++;
+    REFUSED(apply(usual, 1000, ahead, sizeof ahead).told, 11, 1, 1);
+    ahead[1]--;
+    IS(apply(usual, 1000, ahead, sizeof ahead).applied, 1);
+
+    /* A row that arrived at 100 and may wait for 50: kept at 150, expired at 151. */
+    desk = empty_store;
+    IS(apply(usual, 100, first_batch, sizeof first_batch).held, 1);
+    report = apply(fifty_ms, 150, no_row, sizeof no_row);
+    IS(report.held, 1);
+    IS(report.expired, 0);
+    report = apply(fifty_ms, 151, no_row, sizeof no_row);
+    IS(report.held, 0);
+    IS(report.expired, 1);
+}
+
+static void floors(void)
+{
+    static const uint8_t stale[] = {
+        0, 0, 0, 0, 0, 0, 0, 1, 0, 0, 0, 0, 0, 0, 0, 1, 1, 0, /* author 1, sequence 1: stale */
+    };
+    cuwelfra_stamp_told floor;
+
+    desk = empty_store;
+    floor = cuwelfra_floor(AREAS(desk));
+    ACCEPTED(floor.told);
+    IS(floor.present, 0);
+    ACCEPTED(cuwelfra_set_floor(AREAS(desk), 4500, 0, 1));
+    ACCEPTED(cuwelfra_set_floor(AREAS(desk), 100, 0, 1)); /* it never falls */
+    floor = cuwelfra_floor(AREAS(desk));
+    IS(floor.present, 1);
+    IS(floor.wall_time, 4500);
+    IS(floor.logical_counter, 0);
+    IS(floor.actor_id, 1);
+    IS(apply(usual, 10000, second_batch, sizeof second_batch).stale, 1);
+    STARTS(output, stale);
+}
+
+/* ---- Questions to a store, and other changes of it */
+
+/* The desk after both batches: rows of authors 3, 1 and 2, in this order. */
+static void make_desk(void)
+{
+    desk = empty_store;
+    ACCEPTED(apply(usual, 10000, first_batch, sizeof first_batch).told);
+    ACCEPTED(apply(usual, 10000, second_batch, sizeof second_batch).told);
+}
+
+static void questions(void)
+{
+    uint8_t clock[CUWELFRA_CLOCK_BYTES];
+    uint8_t derived[CUWELFRA_CLOCK_BYTES];
+    cuwelfra_stamp_told mark;
+
+    make_desk();
+    ACCEPTED(cuwelfra_store_check(AREAS(desk)));
+    IS(cuwelfra_log_len(AREAS(desk)).number, 3);
+    IS(cuwelfra_pending_len(AREAS(desk)).number, 0);
+    mark = cuwelfra_watermark(AREAS(desk), 2);
+    IS(mark.present, 1);
+    IS(mark.wall_time, 5000);
+    IS(mark.logical_counter, 1);
+    IS(mark.actor_id, 2);
+    IS(cuwelfra_watermark(AREAS(desk), 9).present, 0);
+
+    ACCEPTED(cuwelfra_log_clock(AREAS(desk), clock, sizeof clock));
+    ACCEPTED(cuwelfra_derive_clock(AREAS(desk), derived, sizeof derived));
+    STARTS(clock, derived);
+    IS(cuwelfra_clock_get(clock, sizeof clock, 2).number, 1);
+    ACCEPTED(cuwelfra_log_compacted(AREAS(desk), clock, sizeof clock));
+    ALL_FROM(clock, 0, 0);
+
+    /* A store that breaks a rule is refused by every call: here the count of logged rows is wrong. */
+    desk.head[7]--;
+    REFUSED(cuwelfra_store_check(AREAS(desk)), 1, 0, 0);
+    REFUSED(cuwelfra_log_len(AREAS(desk)).told, 1, 0, 0);
+}
+
+static void rows_and_slots(void)
+{
+    uint8_t slot[CUWELFRA_SLOT_BYTES];
+    uint8_t wire[64];
+    cuwelfra_op_told read = cuwelfra_read_op(first_batch, sizeof first_batch, FIRST_ROW_AT, slot, sizeof slot);
+    cuwelfra_written written;
+
+    ACCEPTED(read.told);
+    IS(read.next, SECOND_ROW_AT);
+    IS(read.verdict, 1);
+    IS(slot[47], 0); /* dependencies */
+    IS(slot[55], 4); /* payload length */
+    IS(slot[79], 4); /* outcome */
+    IS(slot[87], 7); /* detail */
+    IS(slot[384], 'H');
+
+    /* The bytes come back without the three that close a batch row; unsigned, also without the signature. */
+    written = cuwelfra_signed_op(slot, sizeof slot, wire, sizeof wire);
+    ACCEPTED(written.told);
+    IS(written.next, SECOND_ROW_AT - FIRST_ROW_AT - 3);
+    check_bytes(__LINE__, "the signed row", wire, first_batch + FIRST_ROW_AT, (size_t)written.next);
+    IS(cuwelfra_unsigned_op(slot, sizeof slot, wire, sizeof wire).next, SECOND_ROW_AT - FIRST_ROW_AT - 5);
+    REFUSED(cuwelfra_signed_op(slot, sizeof slot, wire, (size_t)written.next - 1).told, 2, 0, 0);
+    REFUSED(cuwelfra_read_op(first_batch, sizeof first_batch, 1, slot, sizeof slot - 1).told, 2, 0, 0);
+}
+
+static void inserting_and_restoring(void)
+{
+    static store other;
+    static const uint8_t nothing[CUWELFRA_CLOCK_BYTES];
+    uint8_t slot[CUWELFRA_SLOT_BYTES];
+
+    /* A row goes in as a slot, without test of causes. */
+    other = empty_store;
+    ACCEPTED(cuwelfra_read_op(second_batch, sizeof second_batch, 1, slot, sizeof slot).told);
+    ACCEPTED(cuwelfra_insert(AREAS(other), slot, sizeof slot));
+    IS(cuwelfra_log_len(AREAS(other)).number, 1);
+
+    /* A store comes back from its logged rows and its compacted clock. */
+    make_desk();
+    ACCEPTED(cuwelfra_from_parts(AREAS(other), desk.log, sizeof desk.log, 3, nothing, sizeof nothing));
+    STARTS(other.log, desk.log);
+    STARTS(other.held, desk.held);
+    STARTS(other.head, desk.head);
+    REFUSED(cuwelfra_from_parts(AREAS(other), desk.log, sizeof desk.log, 5, nothing, sizeof nothing), 2, 0, 0);
+}
+
+static void compacting(void)
+{
+    uint8_t clock[CUWELFRA_CLOCK_BYTES];
+    cuwelfra_stamp_told cutoff;
+
+    /* Every peer has seen all rows; author 3's watermark is the least. */
+    make_desk();
+    ACCEPTED(cuwelfra_log_clock(AREAS(desk), clock, sizeof clock));
+    cutoff = cuwelfra_cutoff(AREAS(desk), clock, sizeof clock);
+    ACCEPTED(cutoff.told);
+    IS(cutoff.present, 1);
+    IS(cutoff.wall_time, 4000);
+    IS(cutoff.logical_counter, 0);
+    IS(cutoff.actor_id, 3);
+    IS(cuwelfra_compact(AREAS(desk), 4000, 0, 3).number, 1);
+    IS(cuwelfra_log_len(AREAS(desk)).number, 2);
+
+    /* A peer that has seen nothing can no longer be served. */
+    IS(cuwelfra_can_serve(AREAS(desk), clock, sizeof clock).number, 1);
+    ACCEPTED(cuwelfra_clock_new(clock, sizeof clock));
+    IS(cuwelfra_can_serve(AREAS(desk), clock, sizeof clock).number, 0);
+}
+
+/* ---- What a peer lacks, and the record of a peer */
+
+static void deltas(void)
+{
+    static const uint8_t positions[] = {0, 0, 0, 0, 0, 0, 0, 1, 0, 0, 0, 0, 0, 0, 0, 2};
+    static const uint8_t one_each[] = {0, 0, 0, 0, 0, 0, 0, 1, 0, 0, 0, 0, 0, 0, 0, 1};
+    static const uint8_t both[] = {0, 0, 0, 0, 0, 0, 0, 2};
+    uint8_t peer[CUWELFRA_CLOCK_BYTES];
+    uint8_t out[3 * 8];
+    cuwelfra_clock_number number;
+
+    /* The peer has author 3's row, which stands first. */
+    make_desk();
+    ACCEPTED(cuwelfra_clock_new(peer, sizeof peer));
+    ACCEPTED(cuwelfra_clock_observe(peer, sizeof peer, 3, 1));
+    memset(out, 0x5A, sizeof out);
+    number = cuwelfra_calculate_delta(AREAS(desk), peer, sizeof peer, out, sizeof out);
+    ACCEPTED(number.told);
+    IS(number.number, 2);
+    STARTS(out, positions);
+    ALL_FROM(out, sizeof positions, 0x5A);
+
+    IS(cuwelfra_chunk_ops(AREAS(desk), peer, sizeof peer, 1, 1000, out, sizeof out).number, 2);
+    STARTS(out, one_each);
+    IS(cuwelfra_chunk_ops(AREAS(desk), peer, sizeof peer, 10, 1000, out, sizeof out).number, 1);
+    STARTS(out, both);
+    REFUSED(cuwelfra_calculate_delta(AREAS(desk), peer, sizeof peer, out, sizeof out - 1).told, 2, 0, 0);
+}
+
+static void peers(void)
+{
+    static const uint8_t rebased[] = {0, 0, 0, 0, 0, 0, 0x04, 0xB0}; /* 1,200 */
+    uint8_t peer[CUWELFRA_PEER_BYTES];
+    uint8_t copy[CUWELFRA_PEER_BYTES];
+    uint8_t clock[CUWELFRA_CLOCK_BYTES];
+
+    ACCEPTED(cuwelfra_peer_new(peer, sizeof peer, 7));
+    REFUSED(cuwelfra_peer_new(peer, sizeof peer - 1, 7), 2, 0, 0);
+    IS(peer[7], 7);
+    ACCEPTED(cuwelfra_peer_connection_started(peer, sizeof peer, 1000));
+    IS(peer[15], 1); /* syncing */
+
+    /* A ping's nonce is its time. Its pong passes, also when repeated; an unasked one is 21 and changes nothing. */
+    ACCEPTED(cuwelfra_peer_record_ping(peer, sizeof peer, 1500));
+    IS(peer[552 + 7], 1); /* outstanding */
+    ACCEPTED(cuwelfra_peer_take_pong(peer, sizeof peer, 1500));
+    IS(peer[552 + 7], 0);
+    IS(peer[624 + 7], 1); /* answered */
+    ACCEPTED(cuwelfra_peer_take_pong(peer, sizeof peer, 1500));
+    memcpy(copy, peer, sizeof peer);
+    REFUSED(cuwelfra_peer_take_pong(peer, sizeof peer, 1501), 21, 0, 0);
+    STARTS(peer, copy);
+
+    /* The machine's time was set back: timers ahead of it follow. */
+    ACCEPTED(cuwelfra_peer_rebase_timers(peer, sizeof peer, 1200));
+    STARTS(peer + 544, rebased);
+
+    /* What the peer has said it knows decides how many rows it lacks. */
+    make_desk();
+    IS(cuwelfra_peer_pending_ops(peer, sizeof peer, AREAS(desk)).number, 3);
+    ACCEPTED(cuwelfra_clock_new(clock, sizeof clock));
+    ACCEPTED(cuwelfra_clock_observe(clock, sizeof clock, 3, 1));
+    ACCEPTED(cuwelfra_peer_absorb_clock(peer, sizeof peer, clock, sizeof clock));
+    IS(cuwelfra_peer_pending_ops(peer, sizeof peer, AREAS(desk)).number, 2);
+    ACCEPTED(cuwelfra_log_clock(AREAS(desk), clock, sizeof clock));
+    ACCEPTED(cuwelfra_peer_replace_clock(peer, sizeof peer, clock, sizeof clock));
+    STARTS(peer + 16, clock);
+    IS(cuwelfra_peer_pending_ops(peer, sizeof peer, AREAS(desk)).number, 0);
+
+    ACCEPTED(cuwelfra_peer_connection_lost(peer, sizeof peer));
+    IS(peer[15], 3); /* disconnected */
+}
+
+int main(void)
+{
+    varints();
+    parts();
+    envelopes();
+    hybrid_clocks();
+    vector_clocks();
+    a_row_waits_for_its_cause();
+    refused_batches();
+    short_areas();
+    times();
+    floors();
+    questions();
+    rows_and_slots();
+    inserting_and_restoring();
+    compacting();
+    deltas();
+    peers();
+    printf("%d checks, %d failed\n", checks, failures);
+    return failures == 0 ? 0 : 1;
+}
