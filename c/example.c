@@ -446,9 +446,11 @@ static void refused_batches(void)
 {
     static const settings one_held = {1, 3600000};
     static const settings none_held = {0, 3600000};
-    static const settings too_many = {65, 3600000};
+    static const settings too_many_held = {65, 3600000};
     static const uint8_t waiting[] = {1, 0x88, 0x27, 0, 4, 4, 2, 0, 0, 0, 1, 0, 0}; /* row 2 of author 4 */
-    uint8_t cut[sizeof first_batch];
+    static const uint8_t many_rows[] = {CUWELFRA_MAX_BATCH};
+    static const uint8_t too_many_rows[] = {CUWELFRA_MAX_BATCH + 1};
+    uint8_t unverified[sizeof first_batch];
     cuwelfra_merge_told report;
 
     apply_first_batch();
@@ -473,16 +475,18 @@ static void refused_batches(void)
     ACCEPTED(report.told);
     IS(report.held, 1);
 
-    /* 4 for a setting above its size; 3 for a batch that is cut short; 12 for a verdict of 0. */
+    /* 4 for a setting or a count above its greatest; 3 for a batch that is cut short; 12 for a verdict of 0. */
     apply_first_batch();
     before = desk;
-    REFUSED(apply(too_many, 10000, first_batch, sizeof first_batch).told, 4, 0, 0);
+    REFUSED(apply(too_many_held, 10000, first_batch, sizeof first_batch).told, 4, 0, 0);
     check_unchanged();
+    REFUSED(apply(usual, 10000, too_many_rows, sizeof too_many_rows).told, 4, 0, 0);
+    REFUSED(apply(usual, 10000, many_rows, sizeof many_rows).told, 3, 0, 0);
     REFUSED(apply(usual, 10000, first_batch, sizeof first_batch - 1).told, 3, 0, 0);
     check_unchanged();
-    memcpy(cut, first_batch, sizeof cut);
-    cut[SECOND_ROW_AT - 3] = 0;
-    REFUSED(apply(usual, 10000, cut, sizeof cut).told, 12, 3, 1);
+    memcpy(unverified, first_batch, sizeof unverified);
+    unverified[SECOND_ROW_AT - 3] = 0;
+    REFUSED(apply(usual, 10000, unverified, sizeof unverified).told, 12, 3, 1);
     check_unchanged();
 }
 

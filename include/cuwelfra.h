@@ -1,4 +1,9 @@
-/* The exported calls of libcuwelfra.a. A slice is a pointer and a length; a slice that is only read is const. */
+/* The exported calls of libcuwelfra.a; c/example.c shows each of them.
+
+   An area or slice is a pointer and a length; what is only read is const. A pointer must not be null and must be good
+   for its length; an area that a call may change must not overlap another of that call. Any bytes and numbers may be
+   handed in: each call answers, or refuses with a number. A refusal changes no lent byte, but for scratch. What lies
+   behind an area's size is neither tested nor touched. docs/LAYOUT.md has every byte of an area. */
 #ifndef CUWELFRA_H
 #define CUWELFRA_H
 
@@ -9,7 +14,23 @@
 extern "C" {
 #endif
 
-/* A refusal. number 0: not refused; else document 01's number and the values that it carries. */
+/* A refusal. All 0: not refused; else its number and the values that it carries, 0 where there is none.
+
+    1 unsound store: a store, slot, clock or peer that breaks a rule of docs/LAYOUT.md
+    2 short area: below the size that the call names
+    3 unreadable: a batch that is cut short or has bytes left over, a number above its bits, authors that do not
+      strictly rise, closing bytes that are none
+    4 over capacity: a size in a batch, or a setting, above its greatest
+    5 zero sequence, 6 foreign stamp, 7 spent counter, 8 payload too large, 9 too many causes, 10 own future,
+      11 ahead of time, 12 bad signature, 13 conflict: first is the row's author, second its sequence
+   14 held overflow, 15 held bytes: first is the limit
+   16 author overflow: first is the limit, second the author
+   17 log full
+   18 authors full: a clock or the watermarks would pass 32 authors
+   19 counter overflow
+   20 remote ahead: first is the remote wall time, second the physical time
+   21 unasked pong
+   22 truncated, 23 overflow, 24 too large, 25 trailing: of varints, parts and envelopes */
 typedef struct {
     uint64_t number;
     uint64_t first;
@@ -47,7 +68,7 @@ typedef struct {
     uint64_t sig_len;
 } cuwelfra_envelope_read;
 
-/* A hybrid clock. */
+/* A hybrid clock. last_counter fits 32 bits, as the calls take it. */
 typedef struct {
     uint64_t actor;
     uint64_t last_wall;
@@ -72,7 +93,7 @@ typedef struct {
     uint64_t last_counter;
 } cuwelfra_updated_clock;
 
-/* A number that a clock call gives; 0 when refused. */
+/* A number; 0 when refused. */
 typedef struct {
     cuwelfra_told told;
     uint64_t number;
@@ -87,8 +108,8 @@ typedef struct {
     uint64_t actor_id;
 } cuwelfra_stamp_told;
 
-/* Where a row stands: place 0 absent, 1 logged, 2 held; its slot, and the length of its payload, which stands at 384 in the slot; all 0 when
-   refused or absent. */
+/* Where a row stands: place 0 absent, 1 logged, 2 held; its slot in that area, and the length of its payload, which
+   stands at 384 in the slot; all 0 when refused or absent. */
 typedef struct {
     cuwelfra_told told;
     uint64_t place;
@@ -116,150 +137,185 @@ typedef struct {
     uint64_t dropped;
 } cuwelfra_merge_told;
 
-/* ---- Bytes */
+/* ---- Bytes
+   A varint is unsigned LEB128: written in its shortest form, read in any form of at most ten bytes that fits 64 bits.
+   Positions may lie past the end, where nothing is left. */
 
-/* How many bytes the shortest varint of v has. */
+/* How many bytes the shortest varint of v has, 1 to 10. Refuses nothing. */
 size_t cuwelfra_varint_len(uint64_t v);
-/* Write at position at of out; 2 when the room is short, and nothing is written. */
+/* Writes the shortest varint of v at position at of out. 2 where it finds no room. */
 cuwelfra_written cuwelfra_put_varint(uint8_t *out, size_t out_len, size_t at, uint64_t v);
+/* Writes the byte b at position at of out. 2 where it finds no room. */
 cuwelfra_written cuwelfra_put_u8(uint8_t *out, size_t out_len, size_t at, uint8_t b);
-/* Length first, then the bytes. */
+/* Writes a varint of bytes_len and then the bytes at position at of out. 2 where both find no room. */
 cuwelfra_written cuwelfra_put_bytes(uint8_t *out, size_t out_len, size_t at, const uint8_t *bytes, size_t bytes_len);
-/* Read at position at of s; 22 to 24 when refused. */
+/* Reads the byte at position at of s. 22 past the end. */
 cuwelfra_number_read cuwelfra_get_u8(const uint8_t *s, size_t s_len, size_t at);
+/* Reads the varint at position at of s. 23 for more than ten bytes or 64 bits, else 22 where its end is missing. */
 cuwelfra_number_read cuwelfra_get_varint(const uint8_t *s, size_t s_len, size_t at);
+/* The same; 23 also for more than 32 bits. */
 cuwelfra_number_read cuwelfra_get_u32(const uint8_t *s, size_t s_len, size_t at);
-/* At most max, and at most the bytes that remain. */
+/* Reads a varint; 22, 23, then 24 where it is above max or above the number of bytes behind it. */
 cuwelfra_number_read cuwelfra_get_count(const uint8_t *s, size_t s_len, size_t at, uint64_t max);
+/* Reads a length, as cuwelfra_get_count does and with its refusals, and passes as many bytes. */
 cuwelfra_part_read cuwelfra_get_bytes(const uint8_t *s, size_t s_len, size_t at, uint64_t max);
-/* 25 when bytes remain. */
+/* Whether position at is the end of s or past it; 25 where bytes remain. */
 cuwelfra_told cuwelfra_finish(const uint8_t *s, size_t s_len, size_t at);
-/* How many bytes remain. */
+/* How many bytes remain from position at of s on; 0 past the end. Refuses nothing. */
 uint64_t cuwelfra_remaining(const uint8_t *s, size_t s_len, size_t at);
-/* Writes at the start of out. */
+/* Writes an envelope at the start of out: sender, body and signature, these two with their lengths. 2 where it finds no
+   room; no limit for body and signature. */
 cuwelfra_written cuwelfra_encode_envelope(uint8_t *out, size_t out_len, uint64_t sender, const uint8_t *body,
                                           size_t body_len, const uint8_t *sig, size_t sig_len);
-/* The envelope must fill all of s. */
+/* Reads the envelope that fills all of s. 22 and 23; 24 where a length is above the bytes behind it, the body above
+   16,777,216 bytes or the signature above 1,024; 25 where bytes remain. */
 cuwelfra_envelope_read cuwelfra_decode_envelope(const uint8_t *s, size_t s_len);
-/* The same, read by one reader. */
+/* The same answer, read by one reader. */
 cuwelfra_envelope_read cuwelfra_read_envelope(const uint8_t *s, size_t s_len);
 
 /* ---- Stamps and the hybrid clock, which goes in by value and comes back moved on */
 
-/* 0 less, 1 equal, 2 greater. */
+/* Compares stamps a and b by wall time, counter, author: 0 less, 1 equal, 2 greater. Refuses nothing. */
 uint64_t cuwelfra_timestamp_cmp(uint64_t wall_a, uint32_t counter_a, uint64_t actor_a, uint64_t wall_b,
                                 uint32_t counter_b, uint64_t actor_b);
+/* A clock that has issued nothing, with a drift of 60,000 ms. Refuses nothing. */
 cuwelfra_hybrid cuwelfra_hybrid_new(uint64_t actor);
+/* The clock with another drift. Refuses nothing. */
 cuwelfra_hybrid cuwelfra_hybrid_set_max_drift(uint64_t actor, uint64_t last_wall, uint32_t last_counter,
                                               uint64_t max_drift_ms, uint64_t new_max_drift_ms);
-/* 19 when the counter cannot grow. */
+/* Issues a stamp at a physical time in ms. 19 where the counter would pass 32 bits. */
 cuwelfra_issued_stamp cuwelfra_hybrid_now(uint64_t actor, uint64_t last_wall, uint32_t last_counter,
                                           uint64_t max_drift_ms, uint64_t physical);
-/* 20 when the remote stamp is beyond the drift, then 19. */
+/* Takes a remote stamp in at a physical time in ms. 20 where the remote wall time is above the physical time and the
+   drift, then 19. */
 cuwelfra_updated_clock cuwelfra_hybrid_update(uint64_t actor, uint64_t last_wall, uint32_t last_counter,
                                               uint64_t max_drift_ms, uint64_t remote_wall, uint32_t remote_counter,
                                               uint64_t remote_actor, uint64_t physical);
 
 /* ---- Vector clocks
    A clock area is 65 big-endian 64-bit words: count, then 32 pairs of author and number, authors strictly rising,
-   unused places zero. A shorter area is 2, one that breaks the rules 1. Later bytes are neither tested nor touched. */
+   unused places zero. Every call refuses with 2 where an area is shorter, and all but cuwelfra_clock_new then with 1
+   where one breaks these rules. */
 
 #define CUWELFRA_CLOCK_BYTES 520
 
+/* Makes the area a clock without entries, whatever it held. 2. */
 cuwelfra_told cuwelfra_clock_new(uint8_t *clock, size_t clock_len);
-/* The author's number, 0 if absent. */
+/* The author's number, 0 where it is absent. 2, 1. */
 cuwelfra_clock_number cuwelfra_clock_get(const uint8_t *clock, size_t clock_len, uint64_t actor);
-/* 18 when a new author finds 32. */
+/* Raises the author's number to at least seq; enters no 0. 2, 1, 18 where it would be the 33rd author. */
 cuwelfra_told cuwelfra_clock_observe(uint8_t *clock, size_t clock_len, uint64_t actor, uint64_t seq);
-/* Gives the new number; 18, or 19 when it cannot grow. */
+/* Raises the author's number by one and gives it. 2, 1, 19 where it cannot grow, 18. */
 cuwelfra_clock_number cuwelfra_clock_increment(uint8_t *clock, size_t clock_len, uint64_t actor);
+/* Raises each number of the clock to at least the other's. 2, 1, 18. */
 cuwelfra_told cuwelfra_clock_merge(uint8_t *clock, size_t clock_len, const uint8_t *other, size_t other_len);
-/* 1 or 0. */
+/* 1 where every number of the other is covered, else 0. 2, 1. */
 cuwelfra_clock_number cuwelfra_clock_dominates(const uint8_t *clock, size_t clock_len, const uint8_t *other,
                                                size_t other_len);
-/* 0 before, 1 after, 2 equal, 3 concurrent. */
+/* How the clock stands to the other: 0 before, 1 after, 2 equal, 3 concurrent. 2, 1. */
 cuwelfra_clock_number cuwelfra_clock_compare(const uint8_t *clock, size_t clock_len, const uint8_t *other,
                                              size_t other_len);
 
 /* ---- Rows
-   A slot is 704 bytes. 16 words: wall, counter, stamp author, author, sequence, dependency count, payload length, signature
-   length, arrival, outcome, detail, five zero. At 128 16 pairs of author and number, authors strictly rising; at 384 256
-   payload bytes; at 640 64 signature bytes. Unused is zero. */
+   A slot is 704 bytes. 16 words: wall, counter, stamp author, author, sequence, dependency count, payload length,
+   signature length, arrival, outcome, detail, five zero. At 128 16 pairs of author and number, authors strictly rising;
+   at 384 256 payload bytes; at 640 64 signature bytes. Unused is zero. */
 
 #define CUWELFRA_SLOT_BYTES 704
 
-/* Write the row of a slot at the start of out; 2 for the slot, 1, 2 for out. */
+/* Writes what is signed of a slot's row at the start of out, at most 624 bytes. 2 and 1 for the slot, then 2 where it
+   finds no room. */
 cuwelfra_written cuwelfra_unsigned_op(const uint8_t *slot, size_t slot_len, uint8_t *out, size_t out_len);
+/* The same with the signature and its length behind it, at most 689 bytes. */
 cuwelfra_written cuwelfra_signed_op(const uint8_t *slot, size_t slot_len, uint8_t *out, size_t out_len);
-/* Reads the batch row at position at into a slot, with arrival 0; 2 for the slot, then 3 or 4 by the first fault. */
+/* Reads the row at position at of a batch into a slot, with arrival 0, and hands its verdict over. 2 for the slot, then
+   3 or 4 by the first fault. */
 cuwelfra_op_told cuwelfra_read_op(const uint8_t *batch, size_t batch_len, size_t at, uint8_t *slot, size_t slot_len);
 
 /* ---- The store
-   Three areas. log: length / 704 slots, at most 1,024, at least one. held: 64 slots. head, in words: log count, held count,
-   floor flag, floor stamp (3), clock (65), compacted clock (65), watermark count, 32 watermarks (author and stamp, 4). All
-   zero is the empty store. Every call tests the whole store: 2 for all areas of fixed size, then 1. */
+   Three areas. log: length / 704 slots, rounded down, at most 1,024, at least one. held: 64 slots. head, in words: log
+   count, held count, floor flag, floor stamp (3), clock (65), compacted clock (65), watermark count, 32 watermarks
+   (author and stamp, 4). All zero is the empty store. Every call but cuwelfra_from_parts tests the whole store: 2 for
+   all areas of fixed size, a slot, clock or peer beside the store too; then 1, the store's before that of what stands
+   beside it. Where nothing else is said, these are its refusals. */
 
 #define CUWELFRA_HELD_BYTES 45056
 #define CUWELFRA_HEAD_BYTES 2120
 
+/* Whether the store keeps every rule. */
 cuwelfra_told cuwelfra_store_check(const uint8_t *log, size_t log_len, const uint8_t *held, size_t held_len,
                                    const uint8_t *head, size_t head_len);
+/* How many rows are logged. */
 cuwelfra_clock_number cuwelfra_log_len(const uint8_t *log, size_t log_len, const uint8_t *held, size_t held_len,
                                        const uint8_t *head, size_t head_len);
+/* How many rows are held. */
 cuwelfra_clock_number cuwelfra_pending_len(const uint8_t *log, size_t log_len, const uint8_t *held, size_t held_len,
                                            const uint8_t *head, size_t head_len);
+/* The floor. */
 cuwelfra_stamp_told cuwelfra_floor(const uint8_t *log, size_t log_len, const uint8_t *held, size_t held_len,
                                    const uint8_t *head, size_t head_len);
+/* The author's watermark: no logged row of that author has a later stamp. */
 cuwelfra_stamp_told cuwelfra_watermark(const uint8_t *log, size_t log_len, const uint8_t *held, size_t held_len,
                                        const uint8_t *head, size_t head_len, uint64_t actor);
-/* Into a clock area. */
+/* Writes the store's clock into a clock area. */
 cuwelfra_told cuwelfra_log_clock(const uint8_t *log, size_t log_len, const uint8_t *held, size_t held_len,
                                  const uint8_t *head, size_t head_len, uint8_t *clock, size_t clock_len);
+/* Writes the clock of the rows that were compacted into a clock area. */
 cuwelfra_told cuwelfra_log_compacted(const uint8_t *log, size_t log_len, const uint8_t *held, size_t held_len,
                                      const uint8_t *head, size_t head_len, uint8_t *clock, size_t clock_len);
+/* Writes the clock that the compacted clock and the logged rows make into a clock area: the store's, by its rules. */
 cuwelfra_told cuwelfra_derive_clock(const uint8_t *log, size_t log_len, const uint8_t *held, size_t held_len,
                                     const uint8_t *head, size_t head_len, uint8_t *clock, size_t clock_len);
-/* 1 or 0; peer is a clock area. */
+/* 1 where a peer with this clock area has all that was compacted, else 0. */
 cuwelfra_clock_number cuwelfra_can_serve(const uint8_t *log, size_t log_len, const uint8_t *held, size_t held_len,
                                          const uint8_t *head, size_t head_len, const uint8_t *peer, size_t peer_len);
-/* Among the logged, first place first, then the held. */
+/* Looks a row up among the logged, first place first, then the held. */
 cuwelfra_lookup_told cuwelfra_lookup(const uint8_t *log, size_t log_len, const uint8_t *held, size_t held_len,
                                      const uint8_t *head, size_t head_len, uint64_t actor, uint64_t seq);
-/* 17, 18. */
+/* Logs the row of a slot, before its equals by stamp; raises clock and watermark. The slot is a logged row's: arrival,
+   outcome and detail are 0. Neither duplicates nor causes are tested. After 2 and 1: 17, 18. */
 cuwelfra_told cuwelfra_insert(uint8_t *log, size_t log_len, const uint8_t *held, size_t held_len, uint8_t *head,
                               size_t head_len, const uint8_t *slot, size_t slot_len);
-/* Makes the store anew from count slots of logged rows, without held rows and floor; 2, 1, 17, 18. */
+/* Makes the store anew, whatever the areas held: logs the rows of count slots, in their order, and has a compacted
+   clock, no held row and no floor. 2 for the three areas, parts below 704 * count and compacted; 1 for compacted, then
+   for a slot that is no logged row's; 17, 18. */
 cuwelfra_told cuwelfra_from_parts(uint8_t *log, size_t log_len, uint8_t *held, size_t held_len, uint8_t *head,
                                   size_t head_len, const uint8_t *parts, size_t parts_len, size_t count,
                                   const uint8_t *compacted, size_t compacted_len);
-/* Removes the stamps at or below the cutoff and gives how many. */
+/* Removes the logged rows with stamps at or below the cutoff and gives how many; raises the compacted clock by them. */
 cuwelfra_clock_number cuwelfra_compact(uint8_t *log, size_t log_len, const uint8_t *held, size_t held_len, uint8_t *head,
                                        size_t head_len, uint64_t wall_time, uint32_t logical_counter, uint64_t actor_id);
+/* The latest stamp that is safe to compact to, where every peer has seen what the clock area frontier says; absent
+   where there is none. */
 cuwelfra_stamp_told cuwelfra_cutoff(const uint8_t *log, size_t log_len, const uint8_t *held, size_t held_len,
                                     const uint8_t *head, size_t head_len, const uint8_t *frontier, size_t frontier_len);
-/* Log positions, and the row counts of that delta's chunks: eight big-endian bytes each. They give how many; an output
-   below 8 bytes for each logged row is 2, last of all. */
+/* Writes the log positions, from 0, of the rows that a peer with this clock area lacks, eight big-endian bytes each,
+   and gives how many. Later bytes stay. An output below 8 bytes for each logged row is 2, last of all. */
 cuwelfra_clock_number cuwelfra_calculate_delta(const uint8_t *log, size_t log_len, const uint8_t *held, size_t held_len,
                                                const uint8_t *head, size_t head_len, const uint8_t *peer, size_t peer_len,
                                                uint8_t *output, size_t output_len);
+/* The same for the row counts of that delta's chunks: at most max_per_chunk rows, 0 meaning 1, and max_bytes, a row
+   counting as the bytes of cuwelfra_unsigned_op, its signature and 16. A row above max_bytes is a chunk of its own. */
 cuwelfra_clock_number cuwelfra_chunk_ops(const uint8_t *log, size_t log_len, const uint8_t *held, size_t held_len,
                                          const uint8_t *head, size_t head_len, const uint8_t *peer, size_t peer_len,
                                          uint64_t max_per_chunk, uint64_t max_bytes, uint8_t *output, size_t output_len);
 
 /* ---- Merging
-   A batch is a varint count of at most 64, as many rows, and nothing behind. A row is written as cuwelfra_signed_op does;
-   three bytes follow: verdict (0 or 1), outcome (0 fits, 1 malformed, 2 unknown tag, 3 denied, 4 invalid) and detail (the
-   tag for 2, a text number for 4, else 0). */
+   A batch is a varint count of at most 64, as many rows, and nothing behind. A row is written as cuwelfra_signed_op
+   does; three bytes follow: verdict (0 or 1), outcome (0 fits, 1 malformed, 2 unknown tag, 3 denied, 4 invalid) and
+   detail (the tag for 2, a text number for 4, else 0). */
 
 #define CUWELFRA_MAX_BATCH 64
 /* Bytes of output and of scratch for each held row and each row of the batch. */
 #define CUWELFRA_LINE_BYTES 18
 #define CUWELFRA_SCRATCH_BYTES 704
 
-/* Applies a batch. The eight numbers are the settings and the time in ms. For each logged row, in logging order, 18 bytes
-   go into output: author and sequence, big-endian, fate (0 applied, 1 stale, 2 to 5 rejected with outcomes 1 to 4), detail
-   (0 for fates 0 and 1). Later bytes stay. 4 for settings, 2 for the store, 1; 3 and 4 in reading; 2 for output and
-   scratch; 5 to 18. A refusal changes no byte but scratch's, which are zero after every call. */
+/* Applies a batch. The eight numbers are the settings and the time in ms. For each logged row, in logging order, 18
+   bytes go into output: author and sequence, big-endian, fate (0 applied, 1 stale, 2 to 5 rejected with outcomes 1 to
+   4), detail (0 for fates 0 and 1). Later bytes stay. Output has CUWELFRA_LINE_BYTES and scratch CUWELFRA_SCRATCH_BYTES
+   for each row that is held before the call and each row of the batch; scratch is all zero after every call.
+   4 for max_pending above 64, max_deps above 16 or max_payload above 256; 2 for the store, 1; 3 and 4 in reading; 2 for
+   output and scratch; 5 to 12 row by row in that order, 13 by row, 14 to 18. */
 cuwelfra_merge_told cuwelfra_apply_remote_ops(uint64_t max_pending, uint64_t max_pending_per_actor,
                                               uint64_t max_pending_bytes, uint64_t max_pending_age_ms,
                                               uint64_t max_drift_ms, uint64_t max_deps, uint64_t max_payload,
@@ -267,27 +323,39 @@ cuwelfra_merge_told cuwelfra_apply_remote_ops(uint64_t max_pending, uint64_t max
                                               size_t held_len, uint8_t *head, size_t head_len, const uint8_t *batch,
                                               size_t batch_len, uint8_t *scratch, size_t scratch_len, uint8_t *output,
                                               size_t output_len);
-/* Logged rows with stamps at or below the floor are stale. This raises it and never lowers it. */
+/* Raises the floor to a stamp, and never lowers it. Rows that are logged from then on with stamps at or below it are
+   stale. Refusals as for the other calls on a store. */
 cuwelfra_told cuwelfra_set_floor(const uint8_t *log, size_t log_len, const uint8_t *held, size_t held_len, uint8_t *head,
                                  size_t head_len, uint64_t wall_time, uint32_t logical_counter, uint64_t actor_id);
 
 /* ---- Peers
-   A peer area, in words: id, state (0 connecting, 1 syncing, 2 up to date, 3 disconnected), remote clock (65), last_seen,
-   last_ping, outstanding count and 8 nonces, answered count and 8 nonces, last_hello. */
+   A peer area, in words: id, state (0 connecting, 1 syncing, 2 up to date, 3 disconnected), remote clock (65),
+   last_seen, last_ping, outstanding count and 8 nonces, answered count and 8 nonces, last_hello. Every call refuses
+   with 2 where the area, or a clock area beside it, is shorter; all but cuwelfra_peer_new then with 1 for a state above
+   3, a count above 8 or a clock that breaks its rules. Where nothing else is said, these are its refusals. Times are in
+   ms. */
 
 #define CUWELFRA_PEER_BYTES 704
 
+/* Makes the area a new peer: connecting, an empty clock, no ping, times 0. 2. */
 cuwelfra_told cuwelfra_peer_new(uint8_t *peer, size_t peer_len, uint64_t id);
+/* Syncing from now on: sets the state and the three times. */
 cuwelfra_told cuwelfra_peer_connection_started(uint8_t *peer, size_t peer_len, uint64_t now);
+/* Disconnected: sets the state alone. */
 cuwelfra_told cuwelfra_peer_connection_lost(uint8_t *peer, size_t peer_len);
-/* 18. */
+/* Merges a clock area into the remote clock. After 2 and 1: 18. */
 cuwelfra_told cuwelfra_peer_absorb_clock(uint8_t *peer, size_t peer_len, const uint8_t *clock, size_t clock_len);
+/* Puts a clock area in the place of the remote clock. */
 cuwelfra_told cuwelfra_peer_replace_clock(uint8_t *peer, size_t peer_len, const uint8_t *clock, size_t clock_len);
+/* Records a ping sent now, which is its nonce too; of nine outstanding the oldest goes. */
 cuwelfra_told cuwelfra_peer_record_ping(uint8_t *peer, size_t peer_len, uint64_t now);
-/* 21. */
+/* Takes a pong: an outstanding nonce moves to the answered, of nine the oldest goes; an answered one passes. After 2
+   and 1: 21 for any other. */
 cuwelfra_told cuwelfra_peer_take_pong(uint8_t *peer, size_t peer_len, uint64_t nonce);
+/* Pulls times that are ahead of now back to it. */
 cuwelfra_told cuwelfra_peer_rebase_timers(uint8_t *peer, size_t peer_len, uint64_t now);
-/* How many logged rows the peer has not acknowledged. */
+/* How many logged rows are above the remote clock's numbers. 2 for the peer, 2 and 1 for the store, then 1 for the
+   peer. */
 cuwelfra_clock_number cuwelfra_peer_pending_ops(const uint8_t *peer, size_t peer_len, const uint8_t *log, size_t log_len,
                                                 const uint8_t *held, size_t held_len, const uint8_t *head,
                                                 size_t head_len);

@@ -5,8 +5,8 @@ use std::collections::BTreeSet;
 const MAGIC: &[u8] = b"!<arch>\n";
 const HEADER_BYTES: usize = 60;
 
-/// The defined symbols that start with the prefix. The first member of an archive, `/`, has a count, as many offsets and
-/// as many names that end in a zero; numbers are big-endian.
+/// The defined symbols that start with the prefix. The first member of an archive, `/`, has a count, as many offsets
+/// and as many names that end in a zero; numbers are big-endian.
 pub fn symbols(archive: &[u8], prefix: &str) -> Result<BTreeSet<String>, String> {
     let members = archive.strip_prefix(MAGIC).ok_or("it is no archive")?;
     let (header, members) = split(members, HEADER_BYTES)?;

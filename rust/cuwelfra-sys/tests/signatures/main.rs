@@ -1,5 +1,5 @@
-//! Compares what the crate cuwelfra exports with what include/cuwelfra.h and the crate cuwelfra-sys declare, and with the
-//! symbols of the static library.
+//! Compares what the crate cuwelfra exports with what include/cuwelfra.h and the crate cuwelfra-sys declare, and with
+//! the symbols of the static library.
 
 mod archive;
 mod forms;
