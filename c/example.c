@@ -41,28 +41,22 @@ static void check_number(int line, const char *what, uint64_t is, uint64_t wante
     }
 }
 
-static void check_bytes(int line, const char *what, const uint8_t *is, const uint8_t *wanted, size_t len)
+/* The bytes that are wanted stand one behind the other (step 1), or all are the same one (step 0). */
+static void check_bytes(int line, const char *what, const uint8_t *is, size_t len, const uint8_t *wanted, size_t step)
 {
     size_t i = 0;
-    while (i < len && is[i] == wanted[i])
+    while (i < len && is[i] == wanted[i * step])
         i++;
     checks++;
     if (i < len) {
         failures++;
-        printf("line %d: byte %lu of %s is %02X and not %02X\n", line, (unsigned long)i, what, is[i], wanted[i]);
+        printf("line %d: byte %lu of %s is %02X and not %02X\n", line, (unsigned long)i, what, is[i], wanted[i * step]);
     }
 }
 
 static void check_all(int line, const char *what, const uint8_t *is, size_t len, uint8_t wanted)
 {
-    size_t i = 0;
-    while (i < len && is[i] == wanted)
-        i++;
-    checks++;
-    if (i < len) {
-        failures++;
-        printf("line %d: byte %lu of %s is %02X and not %02X\n", line, (unsigned long)i, what, is[i], wanted);
-    }
+    check_bytes(line, what, is, len, &wanted, 0);
 }
 
 static void check_told(int line, const char *what, cuwelfra_told is, uint64_t number, uint64_t first, uint64_t second)
@@ -77,10 +71,12 @@ static void check_told(int line, const char *what, cuwelfra_told is, uint64_t nu
 
 /* A number; the first bytes of an area; all its bytes from one on; an accepted call; a refusal with its two values. */
 #define IS(is, wanted) check_number(__LINE__, #is, is, wanted)
-#define STARTS(is, wanted) check_bytes(__LINE__, #is, is, wanted, sizeof(wanted))
+#define STARTS(is, wanted) check_bytes(__LINE__, #is, is, sizeof(wanted), wanted, 1)
 #define ALL_FROM(is, at, wanted) check_all(__LINE__, #is, (is) + (at), sizeof(is) - (at), wanted)
 #define ACCEPTED(told) check_told(__LINE__, #told, told, 0, 0, 0)
 #define REFUSED(told, number, first, second) check_told(__LINE__, #told, told, number, first, second)
+/* A hybrid clock, or an answer that brings one, at wall/counter. */
+#define AT(clock, wall, counter) (IS((clock).last_wall, wall), IS((clock).last_counter, counter))
 
 /* ---- Bytes: varints, parts with their length, envelopes */
 
@@ -188,34 +184,24 @@ static void hybrid_clocks(void)
     cuwelfra_issued_stamp issued;
 
     IS(clock.actor, 1);
-    IS(clock.last_wall, 0);
-    IS(clock.last_counter, 0);
+    AT(clock, 0, 0);
     IS(clock.max_drift_ms, 60000);
     clock = cuwelfra_hybrid_set_max_drift(1, 10, 3, 60000, 500);
-    IS(clock.last_wall, 10);
-    IS(clock.last_counter, 3);
+    AT(clock, 10, 3);
     IS(clock.max_drift_ms, 500);
 
     /* Receiving. */
     updated = receive(10, 10);
     ACCEPTED(updated.told);
-    IS(updated.last_wall, 10);
-    IS(updated.last_counter, 8);
-    updated = receive(9, 10);
-    IS(updated.last_wall, 10);
-    IS(updated.last_counter, 4);
-    updated = receive(12, 10);
-    IS(updated.last_wall, 12);
-    IS(updated.last_counter, 8);
-    updated = receive(9, 13);
-    IS(updated.last_wall, 13);
-    IS(updated.last_counter, 0);
+    AT(updated, 10, 8);
+    AT(receive(9, 10), 10, 4);
+    AT(receive(12, 10), 12, 8);
+    AT(receive(9, 13), 13, 0);
 
     /* Beyond the drift: the refusal carries both walls, and the clock comes back as it was. */
     updated = receive(60011, 10);
     REFUSED(updated.told, 20, 60011, 10);
-    IS(updated.last_wall, 10);
-    IS(updated.last_counter, 3);
+    AT(updated, 10, 3);
 
     /* Sending. */
     issued = cuwelfra_hybrid_now(1, 10, 3, 60000, 11);
@@ -226,11 +212,10 @@ static void hybrid_clocks(void)
     issued = cuwelfra_hybrid_now(1, 10, 3, 60000, 9);
     IS(issued.wall_time, 10);
     IS(issued.logical_counter, 4);
-    IS(issued.last_wall, 10);
-    IS(issued.last_counter, 4);
+    AT(issued, 10, 4);
     issued = cuwelfra_hybrid_now(1, 10, UINT32_MAX, 60000, 9);
     REFUSED(issued.told, 19, 0, 0);
-    IS(issued.last_counter, UINT32_MAX);
+    AT(issued, 10, UINT32_MAX);
 
     /* Stamps compare by wall, counter, author: 0 less, 1 equal, 2 greater. */
     IS(cuwelfra_timestamp_cmp(10, 3, 1, 10, 4, 1), 0);
@@ -639,7 +624,7 @@ static void rows_and_slots(void)
     written = cuwelfra_signed_op(slot, sizeof slot, wire, sizeof wire);
     ACCEPTED(written.told);
     IS(written.next, SECOND_ROW_AT - FIRST_ROW_AT - 3);
-    check_bytes(__LINE__, "the signed row", wire, first_batch + FIRST_ROW_AT, (size_t)written.next);
+    check_bytes(__LINE__, "the signed row", wire, (size_t)written.next, first_batch + FIRST_ROW_AT, 1);
     IS(cuwelfra_unsigned_op(slot, sizeof slot, wire, sizeof wire).next, SECOND_ROW_AT - FIRST_ROW_AT - 5);
     REFUSED(cuwelfra_signed_op(slot, sizeof slot, wire, (size_t)written.next - 1).told, 2, 0, 0);
     REFUSED(cuwelfra_read_op(first_batch, sizeof first_batch, 1, slot, sizeof slot - 1).told, 2, 0, 0);

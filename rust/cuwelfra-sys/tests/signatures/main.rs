@@ -126,15 +126,14 @@ fn symbol_differences(exports: &Source, archive: &[u8]) -> Vec<String> {
     lacking.chain(beyond).collect()
 }
 
+fn assert_none(differences: &[String]) {
+    let count = differences.len();
+    assert_eq!(count, 0, "{count} differences:\n{}", differences.join("\n"));
+}
+
 #[test]
 fn header_and_sys_crate_declare_the_exports() {
-    let found = Texts::of_the_repository().differences();
-    assert!(
-        found.is_empty(),
-        "{} differences:\n{}",
-        found.len(),
-        found.join("\n")
-    );
+    assert_none(&Texts::of_the_repository().differences());
 }
 
 #[test]
@@ -144,13 +143,7 @@ fn the_library_defines_the_exports() {
     let exports = Texts::of_the_repository()
         .exports()
         .expect("readable exports");
-    let found = symbol_differences(&exports, &archive);
-    assert!(
-        found.is_empty(),
-        "{} differences:\n{}",
-        found.len(),
-        found.join("\n")
-    );
+    assert_none(&symbol_differences(&exports, &archive));
 }
 
 /// Counts the declarations by lines, too, lest the readers pass one over.
