@@ -130,7 +130,8 @@ fn compile(name: &str, program: &str, header: &str) -> (PathBuf, Output) {
     let mut command = named_in("CC", "cc");
     let output = command.args(C_FLAGS).args(link(&source, &built)).output();
     let output = output.unwrap_or_else(|error| {
-        panic!("no C compiler: {command:?} does not start ({error}); CC can name another")
+        let compiler = command.get_program().to_string_lossy();
+        panic!("no C compiler: `{compiler}` does not start ({error}); CC can name another")
     });
     (built, output)
 }

@@ -13,11 +13,11 @@ mod tokens;
 use std::collections::BTreeSet;
 use std::fs;
 use std::path::{Path, PathBuf};
+use std::slice;
 
 use forms::Source;
 
 /// The texts that are compared.
-#[derive(Clone)]
 struct Texts {
     rattle: Vec<String>,
     named_crates: Vec<String>,
@@ -158,11 +158,11 @@ fn no_declaration_is_passed_over() {
     let header = texts.header().expect("a readable header");
     assert_eq!(
         header.functions.len(),
-        lines_with(&[texts.header.clone()], ");")
+        lines_with(slice::from_ref(&texts.header), ");")
     );
     assert_eq!(
         header.structs.len(),
-        lines_with(&[texts.header.clone()], "typedef struct {")
+        lines_with(slice::from_ref(&texts.header), "typedef struct {")
     );
 
     let sys = texts.sys().expect("readable declarations");
