@@ -16,8 +16,7 @@ mod words;
 
 pub use clock::{CausalOrder, HybridClock, Timestamp, VectorClock, CLOCK_BYTES, MAX_AUTHORS};
 pub use codec::{varint_len, Envelope, Reader, Writer};
-pub use cuwelfra_sys::MergeLimits;
-pub use merge::{ApplyError, Batch, Fate, Logged, MergeReport, MAX_BATCH};
+pub use merge::{ApplyError, Batch, Fate, Limits, Logged, Report, MAX_BATCH};
 pub use peer::{Peer, PeerState, MAX_PINGS, PEER_BYTES};
 pub use refusal::Refusal;
 pub use row::{

@@ -3,7 +3,7 @@
 use cuwelfra_sys as sys;
 
 use crate::words::word;
-use crate::{ActorId, MergeLimits, Refusal, Row, Slot, Store, Timestamp};
+use crate::{ActorId, Refusal, Row, Slot, Store, Timestamp};
 use crate::{MAX_HELD, MAX_OP_BYTES, SLOT_BYTES};
 
 /// Rows of a batch at most.
@@ -77,9 +77,58 @@ impl Logged {
     }
 }
 
+/// Settings of a batch call. A setting above document 01's closing list is refused, with 4.
+#[derive(Clone, Copy, Debug, PartialEq, Eq)]
+pub struct Limits {
+    /// Largest number of rows held, at most 64.
+    pub max_pending: u64,
+    /// Largest number of rows held of one author.
+    pub max_pending_per_actor: u64,
+    /// Largest total of payload bytes held.
+    pub max_pending_bytes: u64,
+    /// How long a held row may wait, in ms.
+    pub max_pending_age_ms: u64,
+    /// How far ahead of the time a stamp may be, in ms.
+    pub max_drift_ms: u64,
+    /// Largest number of dependencies of a row, at most 16.
+    pub max_deps: u64,
+    /// Largest payload of a row in bytes, at most 256.
+    pub max_payload: u64,
+}
+
+impl Default for Limits {
+    /// The largest sizes, and the original's age and drift.
+    fn default() -> Self {
+        Self {
+            max_pending: 64,
+            max_pending_per_actor: 64,
+            max_pending_bytes: 64 * 256,
+            max_pending_age_ms: 3_600_000,
+            max_drift_ms: 60_000,
+            max_deps: 16,
+            max_payload: 256,
+        }
+    }
+}
+
+impl Limits {
+    /// The settings in the order of the fields, as the exported call takes them.
+    pub fn numbers(&self) -> [u64; 7] {
+        [
+            self.max_pending,
+            self.max_pending_per_actor,
+            self.max_pending_bytes,
+            self.max_pending_age_ms,
+            self.max_drift_ms,
+            self.max_deps,
+            self.max_payload,
+        ]
+    }
+}
+
 /// Counts from one accepted batch, and the rows that it logged.
 #[derive(Clone, Debug, Default, PartialEq, Eq)]
-pub struct MergeReport {
+pub struct Report {
     /// Rows logged that fit.
     pub applied: usize,
     /// Rows logged with a stamp at or below the floor.
@@ -155,18 +204,25 @@ impl Store {
     /// Merges the rows of a batch, [`Batch::bytes`], at this time in ms: all of them, or none; 1 to 18.
     pub fn apply_remote_ops(
         &mut self,
-        limits: &MergeLimits,
+        limits: &Limits,
         time_ms: u64,
         batch: &[u8],
-    ) -> Result<MergeReport, Refusal> {
+    ) -> Result<Report, Refusal> {
         let mut scratch = vec![0; SLOT_BYTES * (MAX_HELD + MAX_BATCH)];
         let mut output = [0; LINE_BYTES * (MAX_HELD + MAX_BATCH)];
         let lent = self.lent_mut();
-        let told = sys::apply_remote_ops(*limits, time_ms, lent, batch, &mut scratch, &mut output);
+        let told = sys::apply_remote_ops(
+            limits.numbers(),
+            time_ms,
+            lent,
+            batch,
+            &mut scratch,
+            &mut output,
+        );
         Refusal::check(told.told)?;
         let logged = (told.applied + told.stale + told.rejected) as usize;
         let lines = output.chunks_exact(LINE_BYTES).take(logged);
-        Ok(MergeReport {
+        Ok(Report {
             applied: told.applied as usize,
             stale: told.stale as usize,
             rejected: told.rejected as usize,

@@ -3,9 +3,7 @@
 use std::collections::{BTreeMap, BTreeSet};
 
 use cuwelfra::MAX_LOGGED;
-use cuwelfra::{
-    ActorId, Batch, HeldRow, MergeLimits, MergeReport, Refusal, Row, Store, VectorClock,
-};
+use cuwelfra::{ActorId, Batch, HeldRow, Limits, Refusal, Report, Row, Store, VectorClock};
 
 use crate::parse::Offer;
 use crate::table::{pairs, text};
@@ -20,7 +18,7 @@ pub struct Desk {
 pub struct Told {
     pub batch: String,
     pub rows: usize,
-    pub answer: Result<MergeReport, Refusal>,
+    pub answer: Result<Report, Refusal>,
 }
 
 /// A held row, and the rows that it waits for: of each author the number that must be logged first.
@@ -81,13 +79,13 @@ pub fn join<'a>(desks: impl Iterator<Item = &'a Desk>, time_ms: u64) -> Result<J
 }
 
 /// One batch call. What does not fit the batch layout is refused, with 3 or 4, where the batch is written.
-fn call(store: &mut Store, offer: &Offer, time_ms: u64) -> Result<MergeReport, Refusal> {
+fn call(store: &mut Store, offer: &Offer, time_ms: u64) -> Result<Report, Refusal> {
     let mut batch = Batch::new();
     for entry in &offer.entries {
         batch.push(&entry.row, entry.verified, entry.outcome)?;
     }
     let time_ms = offer.time_ms.unwrap_or(time_ms);
-    store.apply_remote_ops(&MergeLimits::default(), time_ms, batch.bytes())
+    store.apply_remote_ops(&Limits::default(), time_ms, batch.bytes())
 }
 
 /// The rows from position 0 to the last.

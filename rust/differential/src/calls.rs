@@ -1,6 +1,7 @@
 //! Every exported call that takes a store, with its other areas.
 
-use cuwelfra_sys::{self as sys, ClockNumber, LookupTold, MergeLimits, StampTold, Told};
+use cuwelfra::Limits;
+use cuwelfra_sys::{self as sys, ClockNumber, LookupTold, StampTold, Told};
 
 use crate::area::{self, BYTES};
 use crate::batches::Answer;
@@ -142,7 +143,7 @@ pub fn spoil(takes: Takes, others: &mut Others) -> bool {
 /// A batch without rows. Scratch is zero afterwards, and a refusal gives no counts.
 fn merged(s: &mut Areas, o: &mut Others) -> Told {
     let lent = Lent {
-        limits: MergeLimits::default(),
+        limits: Limits::default(),
         time: 0,
         batch: vec![0],
         scratch: HELD,

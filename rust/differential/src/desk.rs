@@ -1,6 +1,7 @@
 //! A store and its calls in words, for cases that are written by hand.
 
-use cuwelfra_sys::{self as sys, MergeLimits, Told};
+use cuwelfra::Limits;
+use cuwelfra_sys::{self as sys, Told};
 
 use crate::area::word;
 use crate::batches::{BatchRow, LINE};
@@ -59,7 +60,7 @@ impl BatchRow {
 /// A store, and the settings and the time of its calls.
 pub struct Desk {
     pub areas: Areas,
-    pub limits: MergeLimits,
+    pub limits: Limits,
     pub time: u64,
 }
 
@@ -68,7 +69,7 @@ impl Desk {
     pub fn new(capacity: usize) -> Self {
         Self {
             areas: Areas::new(capacity, 0),
-            limits: MergeLimits::default(),
+            limits: Limits::default(),
             time: 1_000,
         }
     }

@@ -3,7 +3,7 @@
 
 use std::collections::BTreeMap;
 
-use cuwelfra_sys::MergeLimits;
+use cuwelfra::Limits;
 
 use crate::batches::BatchRow;
 use crate::rng::Rng;
@@ -21,7 +21,7 @@ pub struct Universe {
 /// A batch call: settings, time and rows.
 #[derive(Clone, Debug)]
 pub struct Offer {
-    pub limits: MergeLimits,
+    pub limits: Limits,
     pub time: u64,
     pub rows: Vec<BatchRow>,
 }
@@ -191,19 +191,19 @@ pub fn gated(rng: &mut Rng, authors: u64) -> [Offer; 2] {
     gate.deps.clear();
     let later = rows.split_off(64);
     [rows, later].map(|rows| Offer {
-        limits: MergeLimits::default(),
+        limits: Limits::default(),
         time: u64::MAX,
         rows: rows.into_iter().map(BatchRow::new).collect(),
     })
 }
 
 /// Settings, most of which are wide.
-fn limits(rng: &mut Rng) -> MergeLimits {
+fn limits(rng: &mut Rng) -> Limits {
     let mut setting = |wide: &[u64], tight: &[u64]| {
         let from = if rng.once_in(14) { tight } else { wide };
         rng.pick(from)
     };
-    MergeLimits {
+    Limits {
         max_pending: setting(&[64], &[0, 1, 2, 3]),
         max_pending_per_actor: setting(&[64, u64::MAX], &[0, 1, 2]),
         max_pending_bytes: setting(&[16_384, u64::MAX], &[0, 1, 2, 4]),

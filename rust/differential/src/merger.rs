@@ -1,6 +1,7 @@
 //! The original's merger with its log, driven as a store of the port is.
 
-use cuwelfra_sys::{MergeLimits, MergeTold, Told};
+use cuwelfra::Limits;
+use cuwelfra_sys::{MergeTold, Told};
 use oracle::log::ReplicatedLog;
 use oracle::merge::{MergeReport, Merger};
 use oracle::stubs::ActorId;
@@ -164,7 +165,7 @@ fn run(merger: &mut Merger, log: &mut ReplicatedLog, offer: &Offer) -> Result<Ra
     })
 }
 
-fn settings(limits: &MergeLimits) -> oracle::merge::MergeLimits {
+fn settings(limits: &Limits) -> oracle::merge::MergeLimits {
     oracle::merge::MergeLimits {
         max_pending: limits.max_pending as usize,
         max_pending_per_actor: limits.max_pending_per_actor as usize,

@@ -1,7 +1,7 @@
 //! Ways to spoil a batch call so that the original has no answer: sizes above capacity, short areas, damaged stores,
 //! unreadable batches.
 
-use cuwelfra_sys::MergeLimits;
+use cuwelfra::Limits;
 
 use crate::batches::BatchRow;
 use crate::damage::DAMAGES;
@@ -11,7 +11,7 @@ use crate::rows::{DEPS, PAYLOAD, SIGNATURE, SLOT};
 use crate::store::{is_sound, Areas, HEAD, HELD};
 
 /// A setting above the closing list.
-pub fn over_limits(rng: &mut Rng, limits: &mut MergeLimits) {
+pub fn over_limits(rng: &mut Rng, limits: &mut Limits) {
     let (setting, most) = match rng.below(3) {
         0 => (&mut limits.max_pending, 64),
         1 => (&mut limits.max_deps, 16),

@@ -1,6 +1,6 @@
 //! Batch calls through the wrapper, on batches that the wrapper builds.
 
-use cuwelfra::{ApplyError, Batch, Fate, Logged, MergeReport};
+use cuwelfra::{ApplyError, Batch, Fate, Logged, Report};
 use cuwelfra_sys::Told;
 
 use crate::batches::{batch, Answer, BatchRow, Line};
@@ -50,12 +50,12 @@ fn rejected(outcome: u64, detail: u64) -> Option<ApplyError> {
     })
 }
 
-fn expected(answer: &Answer) -> Result<MergeReport, Told> {
+fn expected(answer: &Answer) -> Result<Report, Told> {
     let told = &answer.told;
     if told.told != Told::default() {
         return Err(told.told);
     }
-    Ok(MergeReport {
+    Ok(Report {
         applied: told.applied as usize,
         stale: told.stale as usize,
         rejected: told.rejected as usize,

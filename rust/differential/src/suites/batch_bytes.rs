@@ -1,7 +1,7 @@
 //! Batches as bytes: cut at every length, each byte replaced, each number overlong or around a capacity; settings, short
 //! areas and damaged stores beside them. The model answers, with a reader of its own, and no other byte changes.
 
-use cuwelfra_sys::MergeLimits;
+use cuwelfra::Limits;
 
 use crate::area::word;
 use crate::batches::{put_varint, BatchRow};
@@ -84,7 +84,7 @@ impl Sample {
         let behind = rng.pick(&[0, 1, 703]);
         let mut areas = Areas::new(8, behind);
         let offer = |rng: &mut Rng| Offer {
-            limits: MergeLimits::default(),
+            limits: Limits::default(),
             time: universe.time(rng),
             rows: universe.batch(rng),
         };

@@ -2,7 +2,8 @@
 
 use std::collections::BTreeSet;
 
-use cuwelfra_sys::{self as sys, MergeLimits, Told};
+use cuwelfra::Limits;
+use cuwelfra_sys::{self as sys, Told};
 
 use crate::area::word;
 use crate::batches::BatchRow;
@@ -143,9 +144,9 @@ fn again(rng: &mut Rng, universe: &Universe, rows: &[Row], ages: &[u64]) -> Run 
     while !rest.is_empty() {
         let (batch, later) = rest.split_at(1 + rng.below(rest.len()));
         rest = later;
-        let limits = MergeLimits {
+        let limits = Limits {
             max_pending_age_ms: rng.pick(ages),
-            ..MergeLimits::default()
+            ..Limits::default()
         };
         desk.batch(&Offer {
             limits,
