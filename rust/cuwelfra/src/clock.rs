@@ -1,17 +1,27 @@
 //! Stamps, the hybrid clock and vector clocks.
 
 use std::cmp::Ordering;
+use std::fmt;
 
 use cuwelfra_sys as sys;
 
+use crate::words::{size, word};
 use crate::{ActorId, Refusal};
 
 /// Bytes of a clock area.
 pub const CLOCK_BYTES: usize = 520;
-/// Authors of a clock.
+/// Authors of a clock at most.
 pub const MAX_AUTHORS: usize = 32;
 
 /// A stamp, ordered by wall time, counter and author.
+///
+/// ```
+/// use cuwelfra::{ActorId, Timestamp};
+///
+/// let early = Timestamp::new(10, 3, ActorId(2));
+/// assert!(early < Timestamp::new(10, 4, ActorId(1)));
+/// assert!(early > Timestamp::new(10, 3, ActorId(1)));
+/// ```
 #[derive(Clone, Copy, Debug, PartialEq, Eq, Hash)]
 pub struct Timestamp {
     /// Wall time in ms.
@@ -23,6 +33,15 @@ pub struct Timestamp {
 }
 
 impl Timestamp {
+    /// The stamp of these three.
+    pub fn new(wall_time: u64, logical_counter: u32, actor_id: ActorId) -> Self {
+        Self {
+            wall_time,
+            logical_counter,
+            actor_id,
+        }
+    }
+
     pub(crate) fn parts(&self) -> (u64, u32, u64) {
         (self.wall_time, self.logical_counter, self.actor_id.0)
     }
@@ -40,7 +59,28 @@ impl PartialOrd for Timestamp {
     }
 }
 
-/// A hybrid logical clock of one author. The caller brings the physical time.
+/// A hybrid logical clock of one author. The caller brings the physical time, in ms.
+///
+/// Each stamp that it issues is above all that it issued or took in before. A refusal leaves the clock.
+///
+/// ```
+/// use cuwelfra::{ActorId, HybridClock, Refusal, Timestamp};
+///
+/// // A clock at wall time 10, counter 3, takes in the stamp 10/7 of author 2 at the physical time 10.
+/// let mut clock = HybridClock::resume(ActorId(1), 10, 3);
+/// clock.update(&Timestamp::new(10, 7, ActorId(2)), 10)?;
+/// assert_eq!(clock.last(), (10, 8));
+/// assert_eq!(clock.now(10), Ok(Timestamp::new(10, 9, ActorId(1))));
+/// assert_eq!(clock.now(13), Ok(Timestamp::new(13, 0, ActorId(1))));
+///
+/// // A stamp more than the drift ahead of the physical time is refused.
+/// clock.set_max_drift(1_000);
+/// let far = Timestamp::new(1_014, 0, ActorId(2));
+/// let ahead = Refusal::RemoteAhead { remote_wall: 1_014, local_wall: 13 };
+/// assert_eq!(clock.update(&far, 13), Err(ahead));
+/// assert_eq!(clock.last(), (13, 0));
+/// # Ok::<(), Refusal>(())
+/// ```
 #[derive(Clone, Copy, Debug, PartialEq, Eq)]
 pub struct HybridClock {
     actor: ActorId,
@@ -53,6 +93,15 @@ impl HybridClock {
     /// A clock that has issued nothing, with the default drift.
     pub fn new(actor: ActorId) -> Self {
         Self::from_parts(sys::hybrid_new(actor.0))
+    }
+
+    /// A clock that goes on where another stopped, whose [`HybridClock::last`] was kept; with the default drift.
+    pub fn resume(actor: ActorId, last_wall: u64, last_counter: u32) -> Self {
+        Self {
+            last_wall,
+            last_counter,
+            ..Self::new(actor)
+        }
     }
 
     /// Sets the accepted lead of remote stamps over the physical time.
@@ -81,7 +130,7 @@ impl HybridClock {
         self.max_drift_ms
     }
 
-    /// Issues a stamp; 19.
+    /// Issues a stamp at the physical time; 19.
     pub fn now(&mut self, physical: u64) -> Result<Timestamp, Refusal> {
         let issued = sys::hybrid_now(
             self.actor.0,
@@ -92,14 +141,14 @@ impl HybridClock {
         );
         self.moved(issued.last_wall, issued.last_counter);
         Refusal::check(issued.told)?;
-        Ok(Timestamp {
-            wall_time: issued.wall_time,
-            logical_counter: issued.logical_counter as u32,
-            actor_id: ActorId(issued.actor_id),
-        })
+        Ok(Timestamp::new(
+            issued.wall_time,
+            issued.logical_counter as u32,
+            ActorId(issued.actor_id),
+        ))
     }
 
-    /// Folds a remote stamp in; 20, then 19.
+    /// Folds a remote stamp in at the physical time; 20, then 19.
     pub fn update(&mut self, remote: &Timestamp, physical: u64) -> Result<(), Refusal> {
         let updated = sys::hybrid_update(
             self.actor.0,
@@ -143,8 +192,25 @@ pub enum CausalOrder {
 
 /// A vector clock in its area of 520 bytes: each author's highest sequence, an absent one counts as 0.
 ///
-/// Equality is equality of content: a clock with an entry of 0 is not the empty clock.
-#[derive(Clone, Copy, Debug, PartialEq, Eq)]
+/// Equality is equality of content: a clock with an entry of 0 is not the empty clock, though the two compare as
+/// [`CausalOrder::Equal`]. A refusal leaves the clock.
+///
+/// ```
+/// use cuwelfra::{ActorId, CausalOrder, Refusal, VectorClock};
+///
+/// let (mut one, mut other) = (VectorClock::new(), VectorClock::new());
+/// one.observe(ActorId(1), 2)?;
+/// other.observe(ActorId(2), 1)?;
+/// assert_eq!(one.compare(&other), Ok(CausalOrder::Concurrent));
+///
+/// other.merge(&one)?;
+/// assert_eq!(one.compare(&other), Ok(CausalOrder::Before));
+/// assert_eq!(other.entries(), Ok(vec![(ActorId(1), 2), (ActorId(2), 1)]));
+/// assert_eq!(other.increment(ActorId(1)), Ok(3));
+/// assert_eq!(other.get(ActorId(7)), Ok(0));
+/// # Ok::<(), Refusal>(())
+/// ```
+#[derive(Clone, Copy, PartialEq, Eq)]
 pub struct VectorClock([u8; CLOCK_BYTES]);
 
 impl Default for VectorClock {
@@ -172,6 +238,13 @@ impl VectorClock {
     /// The author's number, 0 if absent; 1.
     pub fn get(&self, actor: ActorId) -> Result<u64, Refusal> {
         number(sys::clock_get(&self.0, actor.0))
+    }
+
+    /// Authors and their numbers, by rising author; 1.
+    pub fn entries(&self) -> Result<Vec<(ActorId, u64)>, Refusal> {
+        // Any question to the clock tests its rules.
+        self.get(ActorId(0))?;
+        Ok(pairs(&self.0, 8, size(word(&self.0, 0))).collect())
     }
 
     /// Raises the author's number to at least `seq`; 1, 18.
@@ -204,6 +277,28 @@ impl VectorClock {
             _ => CausalOrder::Concurrent,
         })
     }
+}
+
+impl fmt::Debug for VectorClock {
+    fn fmt(&self, f: &mut fmt::Formatter<'_>) -> fmt::Result {
+        match self.entries() {
+            Ok(entries) => {
+                let entries = entries.iter().map(|(actor, number)| (actor.0, number));
+                f.debug_map().entries(entries).finish()
+            }
+            Err(_) => f.debug_tuple("VectorClock").field(&self.0).finish(),
+        }
+    }
+}
+
+/// So many authors with their numbers, from `at` on.
+pub(crate) fn pairs(
+    area: &[u8],
+    at: usize,
+    count: usize,
+) -> impl Iterator<Item = (ActorId, u64)> + '_ {
+    let place = move |i| at + 16 * i;
+    (0..count).map(move |i| (ActorId(word(area, place(i))), word(area, place(i) + 8)))
 }
 
 pub(crate) fn number(answer: sys::ClockNumber) -> Result<u64, Refusal> {

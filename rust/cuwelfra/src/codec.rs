@@ -2,14 +2,31 @@
 
 use cuwelfra_sys as sys;
 
+use crate::words::{part, size};
 use crate::{ActorId, Refusal};
 
-/// How many bytes the shortest varint of `v` has.
+/// Bytes of an envelope's body at most.
+pub const MAX_BODY: usize = 16_777_216;
+/// Bytes of an envelope's signature at most.
+pub const MAX_BODY_SIGNATURE: usize = 1_024;
+
+/// How many bytes the shortest varint of `v` has: 1 to 10.
 pub fn varint_len(v: u64) -> usize {
     sys::varint_len(v)
 }
 
 /// Reads from a slice. A refused read leaves the position.
+///
+/// ```
+/// use cuwelfra::{Reader, Refusal};
+///
+/// let mut reader = Reader::new(&[0xac, 0x02, 3, b'a', b'b', b'c', 0x80]);
+/// assert_eq!(reader.varint(), Ok(300));
+/// assert_eq!(reader.bytes(256), Ok(&b"abc"[..]));
+/// assert_eq!(reader.varint(), Err(Refusal::Truncated));
+/// assert_eq!((reader.position(), reader.remaining()), (6, 1));
+/// assert_eq!(reader.finish(), Err(Refusal::TrailingBytes));
+/// ```
 #[derive(Clone, Copy, Debug)]
 pub struct Reader<'a> {
     bytes: &'a [u8],
@@ -29,7 +46,7 @@ impl<'a> Reader<'a> {
 
     /// How many bytes are left.
     pub fn remaining(&self) -> usize {
-        sys::remaining(self.bytes, self.at) as usize
+        size(sys::remaining(self.bytes, self.at))
     }
 
     /// Reads one byte; 22.
@@ -53,15 +70,16 @@ impl<'a> Reader<'a> {
     /// Reads a count of at most `max` and at most the bytes left after it; 22 to 24.
     pub fn count(&mut self, max: u64) -> Result<usize, Refusal> {
         let read = sys::get_count(self.bytes, self.at, max);
-        self.number(read).map(|value| value as usize)
+        self.number(read).map(size)
     }
 
     /// Reads bytes, length first, at most `max`; 22 to 24.
     pub fn bytes(&mut self, max: u64) -> Result<&'a [u8], Refusal> {
         let read = sys::get_bytes(self.bytes, self.at, max);
         Refusal::check(read.told)?;
-        self.at = read.next as usize;
-        Ok(part(self.bytes, read.start, read.len))
+        let part = part(self.bytes, size(read.start), read.len)?;
+        self.at = size(read.next);
+        Ok(part)
     }
 
     /// Nothing may be left; 25.
@@ -71,12 +89,26 @@ impl<'a> Reader<'a> {
 
     fn number(&mut self, read: sys::NumberRead) -> Result<u64, Refusal> {
         Refusal::check(read.told)?;
-        self.at = read.next as usize;
+        self.at = size(read.next);
         Ok(read.value)
     }
 }
 
 /// Writes into a lent slice. A refused write leaves slice and position.
+///
+/// ```
+/// use cuwelfra::{Refusal, Writer};
+///
+/// let mut out = [0; 6];
+/// let mut writer = Writer::new(&mut out);
+/// writer.varint(300)?;
+/// writer.bytes(b"ab")?;
+/// assert_eq!(writer.position(), 5);
+/// assert_eq!(writer.varint(300), Err(Refusal::ShortArea));
+/// writer.u8(7)?;
+/// assert_eq!(out, [0xac, 0x02, 2, b'a', b'b', 7]);
+/// # Ok::<(), Refusal>(())
+/// ```
 #[derive(Debug)]
 pub struct Writer<'a> {
     out: &'a mut [u8],
@@ -119,17 +151,34 @@ impl<'a> Writer<'a> {
 }
 
 /// A message body with its sender and a signature over the body.
+///
+/// ```
+/// use cuwelfra::{ActorId, Envelope, Refusal};
+///
+/// let envelope = Envelope { sender: ActorId(1), body: b"hello", sig: &[9; 64] };
+/// let mut frame = vec![0; envelope.encoded_len()];
+/// assert_eq!(envelope.encode(&mut frame), Ok(1 + 1 + 5 + 1 + 64));
+/// assert_eq!(Envelope::decode(&frame), Ok(envelope));
+/// frame.push(0);
+/// assert_eq!(Envelope::decode(&frame), Err(Refusal::TrailingBytes));
+/// ```
 #[derive(Clone, Copy, Debug, PartialEq, Eq)]
 pub struct Envelope<'a> {
     /// Who sent the body.
     pub sender: ActorId,
-    /// The body.
+    /// The body, of at most [`MAX_BODY`] bytes where it is read.
     pub body: &'a [u8],
-    /// The signature over the body.
+    /// The signature over the body, of at most [`MAX_BODY_SIGNATURE`] bytes where it is read.
     pub sig: &'a [u8],
 }
 
 impl<'a> Envelope<'a> {
+    /// How many bytes [`Envelope::encode`] writes.
+    pub fn encoded_len(&self) -> usize {
+        let sized = |bytes: &[u8]| varint_len(bytes.len() as u64) + bytes.len();
+        varint_len(self.sender.0) + sized(self.body) + sized(self.sig)
+    }
+
     /// Writes the envelope at the start of `out` and gives its length; 2.
     pub fn encode(&self, out: &mut [u8]) -> Result<usize, Refusal> {
         next(sys::encode_envelope(
@@ -146,17 +195,14 @@ impl<'a> Envelope<'a> {
         Refusal::check(read.told)?;
         Ok(Self {
             sender: ActorId(read.sender),
-            body: part(frame, read.body_at, read.body_len),
-            sig: part(frame, read.sig_at, read.sig_len),
+            body: part(frame, size(read.body_at), read.body_len)?,
+            sig: part(frame, size(read.sig_at), read.sig_len)?,
         })
     }
 }
 
-fn next(written: sys::Written) -> Result<usize, Refusal> {
+/// The position past what was written.
+pub(crate) fn next(written: sys::Written) -> Result<usize, Refusal> {
     Refusal::check(written.told)?;
-    Ok(written.next as usize)
-}
-
-fn part(bytes: &[u8], start: u64, len: u64) -> &[u8] {
-    &bytes[start as usize..][..len as usize]
+    Ok(size(written.next))
 }

@@ -1,103 +1,54 @@
-//! Batches of remote rows, and the floor.
+//! The batch call: its settings and what it reports; and the floor.
 
 use cuwelfra_sys as sys;
 
-use crate::words::word;
-use crate::{ActorId, Refusal, Row, Slot, Store, Timestamp};
-use crate::{MAX_HELD, MAX_OP_BYTES, SLOT_BYTES};
+use crate::batch::outcome_of;
+use crate::words::{misfit, size, word};
+use crate::{ActorId, ApplyError, Refusal, Store, Timestamp, MAX_BATCH, MAX_HELD};
 
-/// Rows of a batch at most.
-pub const MAX_BATCH: usize = 64;
+/// Bytes of output for each logged row.
+pub const LINE_BYTES: usize = 18;
 
-/// Bytes of output for each row.
-const LINE_BYTES: usize = 18;
-
-/// Why policy or state refuse a row. It is logged all the same.
-#[derive(Clone, Copy, Debug, PartialEq, Eq)]
-pub enum ApplyError {
-    /// The payload does not decode.
-    MalformedOp,
-    /// The payload has a tag that the state does not know.
-    UnknownOpTag(u8),
-    /// The author may not do this.
-    Denied,
-    /// The application refuses it, for the reason of this number.
-    Invalid(u8),
-}
-
-impl ApplyError {
-    /// Outcome and detail.
-    fn parts(self) -> (u8, u8) {
-        match self {
-            Self::MalformedOp => (1, 0),
-            Self::UnknownOpTag(tag) => (2, tag),
-            Self::Denied => (3, 0),
-            Self::Invalid(text) => (4, text),
-        }
-    }
-}
-
-/// What became of a logged row.
-#[derive(Clone, Copy, Debug, PartialEq, Eq)]
-pub enum Fate {
-    /// It fits.
-    Applied,
-    /// Its stamp is at or below the floor.
-    Stale,
-    /// Policy or state refused it.
-    Rejected(ApplyError),
-}
-
-/// A row that a batch logged.
-#[derive(Clone, Copy, Debug, PartialEq, Eq)]
-pub struct Logged {
-    /// Its author.
-    pub actor: ActorId,
-    /// The author's number for it.
-    pub seq: u64,
-    /// What became of it.
-    pub fate: Fate,
-}
-
-impl Logged {
-    fn from_line(line: &[u8]) -> Self {
-        let detail = line[17];
-        Self {
-            actor: ActorId(word(line, 0)),
-            seq: word(line, 8),
-            fate: match line[16] {
-                0 => Fate::Applied,
-                1 => Fate::Stale,
-                2 => Fate::Rejected(ApplyError::MalformedOp),
-                3 => Fate::Rejected(ApplyError::UnknownOpTag(detail)),
-                4 => Fate::Rejected(ApplyError::Denied),
-                _ => Fate::Rejected(ApplyError::Invalid(detail)),
-            },
-        }
-    }
-}
-
-/// Settings of a batch call. A setting above document 01's closing list is refused, with 4.
+/// Settings of a batch call. One above what its field says is refused, with 4; equality passes every limit.
+///
+/// ```
+/// use cuwelfra::{ActorId, Batch, Limits, Refusal, Row, Store, Timestamp};
+///
+/// // Two rows whose cause has not come: both would wait.
+/// let mut batch = Batch::new();
+/// for seq in 2..4 {
+///     batch.push(&Row::new(Timestamp::new(10 * seq, 0, ActorId(1)), seq, "Kette"), true, Ok(()))?;
+/// }
+/// let mut store = Store::with_capacity(16)?;
+/// let mut limits = Limits { max_pending: 1, ..Limits::default() };
+/// let told = store.apply_remote_ops(&limits, 1_000, batch.bytes());
+/// assert_eq!(told, Err(Refusal::HeldOverflow { limit: 1 }));
+///
+/// limits.max_pending = 2;
+/// let report = store.apply_remote_ops(&limits, 1_000, batch.bytes())?;
+/// assert_eq!(report.held, 2);
+/// # Ok::<(), Refusal>(())
+/// ```
 #[derive(Clone, Copy, Debug, PartialEq, Eq)]
 pub struct Limits {
-    /// Largest number of rows held, at most 64.
+    /// Largest number of rows held, at most 64; beyond it 14.
     pub max_pending: u64,
-    /// Largest number of rows held of one author.
+    /// Largest number of rows held of one author; beyond it 16.
     pub max_pending_per_actor: u64,
-    /// Largest total of payload bytes held.
+    /// Largest total of payload bytes held; beyond it 15.
     pub max_pending_bytes: u64,
-    /// How long a held row may wait, in ms.
+    /// How long a held row may wait, in ms; after that it expires.
     pub max_pending_age_ms: u64,
-    /// How far ahead of the time a stamp may be, in ms.
+    /// How far ahead of the time a stamp may be, in ms; beyond it 11.
     pub max_drift_ms: u64,
-    /// Largest number of dependencies of a row, at most 16.
+    /// Largest number of dependencies of a row, at most 16; beyond it 9.
     pub max_deps: u64,
-    /// Largest payload of a row in bytes, at most 256.
+    /// Largest payload of a row in bytes, at most 256; beyond it 8.
     pub max_payload: u64,
 }
 
 impl Default for Limits {
-    /// The largest sizes, and the original's age and drift.
+    /// The largest sizes, and the original's age and drift: an hour and a minute.
     fn default() -> Self {
         Self {
             max_pending: 64,
@@ -126,7 +77,53 @@ impl Limits {
     }
 }
 
+/// What became of a logged row.
+#[derive(Clone, Copy, Debug, PartialEq, Eq)]
+pub enum Fate {
+    /// It fits.
+    Applied,
+    /// Its stamp is at or below the floor.
+    Stale,
+    /// Policy or state refused it.
+    Rejected(ApplyError),
+}
+
+impl Fate {
+    fn of(fate: u8, detail: u8) -> Option<Self> {
+        match fate {
+            0 => Some(Self::Applied),
+            1 => Some(Self::Stale),
+            _ => outcome_of(fate - 1, detail)?.err().map(Self::Rejected),
+        }
+    }
+}
+
+/// A row that a batch logged.
+#[derive(Clone, Copy, Debug, PartialEq, Eq)]
+pub struct Logged {
+    /// Its author.
+    pub actor: ActorId,
+    /// The author's number for it.
+    pub seq: u64,
+    /// What became of it.
+    pub fate: Fate,
+}
+
+impl Logged {
+    fn from_line(line: &[u8; LINE_BYTES]) -> Result<Self, Refusal> {
+        let [.., fate, detail] = *line;
+        Ok(Self {
+            actor: ActorId(word(line, 0)),
+            seq: word(line, 8),
+            fate: Fate::of(fate, detail).ok_or(misfit())?,
+        })
+    }
+}
+
 /// Counts from one accepted batch, and the rows that it logged.
+///
+/// The rows held before and the batch's are these together: `expired`, `duplicates`, `applied`, `stale`, `rejected`,
+/// `dropped` and `held`.
 #[derive(Clone, Debug, Default, PartialEq, Eq)]
 pub struct Report {
     /// Rows logged that fit.
@@ -147,101 +144,120 @@ pub struct Report {
     pub logged: Vec<Logged>,
 }
 
-/// A batch in document 01's layout.
-#[derive(Clone, Debug, PartialEq, Eq)]
-pub struct Batch(Vec<u8>);
-
-impl Default for Batch {
-    fn default() -> Self {
-        Self::new()
-    }
-}
-
-impl Batch {
-    /// A batch without rows.
-    pub fn new() -> Self {
-        Self(vec![0])
-    }
-
-    /// Appends a row, with the verifier's answer and that of policy and state; 4 for a 65th row or a size above
-    /// capacity, 3 for dependencies that do not rise.
-    pub fn push(
-        &mut self,
-        row: &Row,
-        verified: bool,
-        outcome: Result<(), ApplyError>,
-    ) -> Result<(), Refusal> {
-        if self.len() == MAX_BATCH {
-            return Err(Refusal::OverCapacity);
-        }
-        let mut bytes = [0; MAX_OP_BYTES];
-        let len = Slot::logged(row)?.signed_op(&mut bytes)?;
-        let (outcome, detail) = outcome.map_or_else(ApplyError::parts, |()| (0, 0));
-        self.0.extend_from_slice(&bytes[..len]);
-        self.0.extend([u8::from(verified), outcome, detail]);
-        // A count of at most 64 is a varint of one byte.
-        self.0[0] += 1;
-        Ok(())
-    }
-
-    /// How many rows it has.
-    pub fn len(&self) -> usize {
-        usize::from(self.0[0])
-    }
-
-    /// Whether it has no row.
-    pub fn is_empty(&self) -> bool {
-        self.len() == 0
-    }
-
-    /// Its bytes.
-    pub fn bytes(&self) -> &[u8] {
-        &self.0
-    }
-}
-
 impl Store {
-    /// Merges the rows of a batch, [`Batch::bytes`], at this time in ms: all of them, or none; 1 to 18.
+    /// Merges the rows of a batch, [`Batch::bytes`](crate::Batch::bytes), at this time in ms: all of them, or none; 1
+    /// to 18.
+    ///
+    /// The bytes may be any: what is not a batch is refused, with 3 or 4.
     pub fn apply_remote_ops(
         &mut self,
         limits: &Limits,
         time_ms: u64,
         batch: &[u8],
     ) -> Result<Report, Refusal> {
-        let mut scratch = vec![0; SLOT_BYTES * (MAX_HELD + MAX_BATCH)];
+        let rows = self.working_rows(batch);
         let mut output = [0; LINE_BYTES * (MAX_HELD + MAX_BATCH)];
-        let lent = self.lent_mut();
-        let told = sys::apply_remote_ops(
-            limits.numbers(),
-            time_ms,
-            lent,
-            batch,
-            &mut scratch,
-            &mut output,
-        );
+        let (areas, scratch) = self.lent_mut(rows);
+        let settings = limits.numbers();
+        let told = sys::apply_remote_ops(settings, time_ms, areas, batch, scratch, &mut output);
         Refusal::check(told.told)?;
-        let logged = (told.applied + told.stale + told.rejected) as usize;
-        let lines = output.chunks_exact(LINE_BYTES).take(logged);
-        Ok(Report {
-            applied: told.applied as usize,
-            stale: told.stale as usize,
-            rejected: told.rejected as usize,
-            duplicates: told.duplicates as usize,
-            held: told.held as usize,
-            expired: told.expired as usize,
-            dropped: told.dropped as usize,
-            logged: lines.map(Logged::from_line).collect(),
-        })
+        report(&told, &output)
+    }
+
+    /// How many rows the call may have at work: the held ones and the batch's, as they are counted. It refuses a count
+    /// that is wrong before it needs scratch for it.
+    fn working_rows(&self, batch: &[u8]) -> usize {
+        let held = size(word(self.areas().2, 8));
+        let batch = size(sys::get_varint(batch, 0).value);
+        held.min(MAX_HELD) + batch.min(MAX_BATCH)
     }
 
     /// Raises the floor: rows with stamps at or below it are logged as stale. It never lowers it.
+    ///
+    /// ```
+    /// use cuwelfra::{ActorId, Refusal, Store, Timestamp};
+    ///
+    /// let mut store = Store::with_capacity(16)?;
+    /// store.set_floor(&Timestamp::new(20, 0, ActorId(1)))?;
+    /// store.set_floor(&Timestamp::new(10, 0, ActorId(1)))?;
+    /// assert_eq!(store.floor(), Ok(Some(Timestamp::new(20, 0, ActorId(1)))));
+    /// # Ok::<(), Refusal>(())
+    /// ```
     pub fn set_floor(&mut self, stamp: &Timestamp) -> Result<(), Refusal> {
-        let lent = self.lent_mut();
-        Refusal::check(sys::set_floor(
-            lent.log,
-            lent.held,
-            lent.head,
-            stamp.parts(),
-        ))
+        let (areas, _) = self.lent_mut(0);
+        let (log, held) = (areas.log, areas.held);
+        Refusal::check(sys::set_floor(log, held, areas.head, stamp.parts()))
+    }
+}
+
+fn report(told: &sys::MergeTold, output: &[u8]) -> Result<Report, Refusal> {
+    let report = Report {
+        applied: size(told.applied),
+        stale: size(told.stale),
+        rejected: size(told.rejected),
+        duplicates: size(told.duplicates),
+        held: size(told.held),
+        expired: size(told.expired),
+        dropped: size(told.dropped),
+        logged: Vec::new(),
+    };
+    let rows = [report.stale, report.rejected];
+    let rows = rows.into_iter().fold(report.applied, usize::saturating_add);
+    let (lines, _) = output.as_chunks();
+    let lines = lines.get(..rows).ok_or(misfit())?;
+    let logged = lines.iter().map(Logged::from_line);
+    Ok(Report {
+        logged: logged.collect::<Result<_, _>>()?,
+        ..report
+    })
+}
+
+#[cfg(test)]
+mod tests {
+    use super::*;
+
+    fn line(fate: u8, detail: u8) -> [u8; LINE_BYTES] {
+        let mut line = [0; LINE_BYTES];
+        [line[7], line[15], line[16], line[17]] = [5, 9, fate, detail];
+        line
+    }
+
+    #[test]
+    fn lines_are_read() {
+        let fates = [
+            (0, 0, Fate::Applied),
+            (1, 0, Fate::Stale),
+            (2, 0, Fate::Rejected(ApplyError::MalformedOp)),
+            (3, 7, Fate::Rejected(ApplyError::UnknownOpTag(7))),
+            (4, 0, Fate::Rejected(ApplyError::Denied)),
+            (5, 8, Fate::Rejected(ApplyError::Invalid(8))),
+        ];
+        for (number, detail, fate) in fates {
+            let logged = Logged {
+                actor: ActorId(5),
+                seq: 9,
+                fate,
+            };
+            assert_eq!(Logged::from_line(&line(number, detail)), Ok(logged));
+        }
+        for (number, detail) in [(2, 1), (6, 0), (255, 0)] {
+            assert_eq!(Logged::from_line(&line(number, detail)), Err(misfit()));
+        }
+    }
+
+    #[test]
+    fn more_lines_than_there_is_output_for_are_no_answer() {
+        let told = sys::MergeTold {
+            applied: 1,
+            stale: u64::MAX,
+            ..sys::MergeTold::default()
+        };
+        let output = [0; 2 * LINE_BYTES];
+        assert_eq!(report(&told, &output), Err(misfit()));
+        let two = sys::MergeTold { stale: 1, ..told };
+        assert_eq!(
+            report(&two, &output).map(|report| report.logged.len()),
+            Ok(2)
+        );
     }
 }

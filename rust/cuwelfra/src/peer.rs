@@ -3,8 +3,8 @@
 use cuwelfra_sys as sys;
 
 use crate::clock::number;
-use crate::words::word;
-use crate::{ActorId, Refusal, Store, VectorClock, CLOCK_BYTES};
+use crate::words::{size, word};
+use crate::{ActorId, Refusal, Store, VectorClock};
 
 /// Bytes of a peer area.
 pub const PEER_BYTES: usize = 704;
@@ -31,17 +31,36 @@ pub enum PeerState {
     Disconnected,
 }
 
-/// A peer in its area. The calls refuse an area that breaks the rules, with 1.
+/// A peer in its area. The calls refuse an area that breaks the rules, with 1; a refusal leaves the peer.
+///
+/// ```
+/// use cuwelfra::{ActorId, Peer, PeerState, Refusal};
+///
+/// let mut peer = Peer::new(ActorId(2));
+/// peer.connection_started(1_000)?;
+/// assert_eq!(peer.state(), Ok(PeerState::Syncing));
+///
+/// // A ping's time is its nonce, which the pong brings back.
+/// peer.record_ping(1_500)?;
+/// assert_eq!(peer.outstanding_pings(), Ok(vec![1_500]));
+/// peer.take_pong(1_500)?;
+/// assert_eq!(peer.outstanding_pings(), Ok(vec![]));
+///
+/// // The same pong once more is a repeat; any other was not asked for.
+/// assert_eq!(peer.take_pong(1_500), Ok(()));
+/// assert_eq!(peer.take_pong(1_501), Err(Refusal::UnaskedPong));
+/// # Ok::<(), Refusal>(())
+/// ```
 #[derive(Clone, Debug, PartialEq, Eq)]
 pub struct Peer([u8; PEER_BYTES]);
 
 impl Peer {
     /// A peer that is connecting.
     pub fn new(id: ActorId) -> Self {
-        let mut peer = Self([0; PEER_BYTES]);
-        let told = sys::peer_new(&mut peer.0, id.0);
-        Refusal::check(told).expect("the area has its size");
-        peer
+        let mut area = [0; PEER_BYTES];
+        // Nothing is refused: the area has its size.
+        sys::peer_new(&mut area, id.0);
+        Self(area)
     }
 
     /// Takes over an area.
@@ -72,8 +91,8 @@ impl Peer {
 
     /// The latest clock received from the peer.
     pub fn remote_clock(&self) -> VectorClock {
-        let area = self.0[CLOCK..][..CLOCK_BYTES].try_into();
-        VectorClock::from_area(area.expect("a clock's bytes"))
+        let area = self.0.get(CLOCK..).and_then(|rest| rest.first_chunk());
+        area.map_or_else(VectorClock::new, |area| VectorClock::from_area(*area))
     }
 
     /// Physical time of the last frame received.
@@ -102,8 +121,9 @@ impl Peer {
     }
 
     fn pings(&self, at: usize) -> Result<Vec<u64>, Refusal> {
+        const MAX: u64 = MAX_PINGS as u64;
         match word(&self.0, at) {
-            count if count <= MAX_PINGS as u64 => Ok((1..=count as usize)
+            count @ 0..=MAX => Ok((1..=size(count))
                 .map(|i| word(&self.0, at + 8 * i))
                 .collect()),
             _ => Err(Refusal::UnsoundStore),
@@ -147,6 +167,6 @@ impl Peer {
 
     /// How many logged rows the peer has not acknowledged; 2, 1.
     pub fn pending_ops(&self, store: &Store) -> Result<usize, Refusal> {
-        number(sys::peer_pending_ops(&self.0, store.lent())).map(|rows| rows as usize)
+        number(sys::peer_pending_ops(&self.0, store.lent())).map(size)
     }
 }

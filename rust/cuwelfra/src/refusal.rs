@@ -5,11 +5,31 @@ use std::fmt;
 
 use cuwelfra_sys::Told;
 
+use crate::explained::{Explained, EXPLAINED, UNKNOWN};
 use crate::ActorId;
 
-/// Why a call was refused: one variant for each of document 01's numbers 1 to 25.
+/// Why a call was refused: one variant for each of document 01's numbers 1 to 25, and one for what it does not have.
+///
+/// A refused call changes nothing. [`Refusal::meaning`] and [`Refusal::advice`] say what it means and what to do.
+///
+/// ```
+/// use cuwelfra::{ActorId, Refusal, VectorClock};
+///
+/// let refusal = Refusal::Conflict { actor: ActorId(1), seq: 4 };
+/// assert_eq!(refusal.number(), 13);
+/// assert_eq!(refusal.to_string(), "refusal 13, conflict: author 1, sequence 4");
+///
+/// // It is an error like any other, and may go through `?`.
+/// fn next(clock: &mut VectorClock) -> Result<u64, Box<dyn std::error::Error>> {
+///     Ok(clock.increment(ActorId(1))?)
+/// }
+/// let mut clock = VectorClock::new();
+/// clock.observe(ActorId(1), u64::MAX)?;
+/// let told = next(&mut clock).map_err(|error| error.to_string());
+/// assert_eq!(told, Err("refusal 19, counter overflow".to_owned()));
+/// # Ok::<(), Refusal>(())
+/// ```
 #[derive(Clone, Copy, Debug, PartialEq, Eq)]
-#[allow(missing_docs)]
 pub enum Refusal {
     /// 1: a lent area breaks a rule.
     UnsoundStore,
@@ -20,29 +40,85 @@ pub enum Refusal {
     /// 4: a size or setting is above its capacity.
     OverCapacity,
     /// 5: sequence 0.
-    ZeroSequence { actor: ActorId, seq: u64 },
+    ZeroSequence {
+        /// The row's author.
+        actor: ActorId,
+        /// The row's sequence.
+        seq: u64,
+    },
     /// 6: the stamp's author is not the author.
-    ForeignStamp { actor: ActorId, seq: u64 },
+    ForeignStamp {
+        /// The row's author.
+        actor: ActorId,
+        /// The row's sequence.
+        seq: u64,
+    },
     /// 7: the stamp's counter is the last one.
-    SpentCounter { actor: ActorId, seq: u64 },
+    SpentCounter {
+        /// The row's author.
+        actor: ActorId,
+        /// The row's sequence.
+        seq: u64,
+    },
     /// 8: the payload is above its limit.
-    PayloadTooLarge { actor: ActorId, seq: u64 },
+    PayloadTooLarge {
+        /// The row's author.
+        actor: ActorId,
+        /// The row's sequence.
+        seq: u64,
+    },
     /// 9: the dependencies are above their limit.
-    TooManyCauses { actor: ActorId, seq: u64 },
+    TooManyCauses {
+        /// The row's author.
+        actor: ActorId,
+        /// The row's sequence.
+        seq: u64,
+    },
     /// 10: a dependency on its own author, not below its sequence.
-    OwnFuture { actor: ActorId, seq: u64 },
+    OwnFuture {
+        /// The row's author.
+        actor: ActorId,
+        /// The row's sequence.
+        seq: u64,
+    },
     /// 11: the stamp is beyond the drift.
-    AheadOfTime { actor: ActorId, seq: u64 },
+    AheadOfTime {
+        /// The row's author.
+        actor: ActorId,
+        /// The row's sequence.
+        seq: u64,
+    },
     /// 12: the verifier said no.
-    BadSignature { actor: ActorId, seq: u64 },
+    BadSignature {
+        /// The row's author.
+        actor: ActorId,
+        /// The row's sequence.
+        seq: u64,
+    },
     /// 13: another row has this author and sequence.
-    Conflict { actor: ActorId, seq: u64 },
+    Conflict {
+        /// The row's author.
+        actor: ActorId,
+        /// The row's sequence.
+        seq: u64,
+    },
     /// 14: too many held rows.
-    HeldOverflow { limit: u64 },
+    HeldOverflow {
+        /// The setting.
+        limit: u64,
+    },
     /// 15: too many held payload bytes.
-    HeldBytes { limit: u64 },
+    HeldBytes {
+        /// The setting.
+        limit: u64,
+    },
     /// 16: too many held rows of one author.
-    AuthorOverflow { limit: u64, actor: ActorId },
+    AuthorOverflow {
+        /// The setting.
+        limit: u64,
+        /// The lowest such author.
+        actor: ActorId,
+    },
     /// 17: the log is full.
     LogFull,
     /// 18: a clock or the watermarks are full.
@@ -50,7 +126,12 @@ pub enum Refusal {
     /// 19: a clock's number cannot grow.
     CounterOverflow,
     /// 20: a stamp beyond the hybrid clock's drift.
-    RemoteAhead { remote_wall: u64, local_wall: u64 },
+    RemoteAhead {
+        /// The stamp's wall time.
+        remote_wall: u64,
+        /// The physical time.
+        local_wall: u64,
+    },
     /// 21: a pong that answers no ping.
     UnaskedPong,
     /// 22: the bytes end too early.
@@ -61,27 +142,24 @@ pub enum Refusal {
     TooLarge,
     /// 25: bytes are left over.
     TrailingBytes,
+    /// None of these: the linked library is not the one that this crate was made for. What it told; its number is 0
+    /// where the values of an answer do not fit what was lent.
+    UnknownAnswer(Told),
 }
 
 impl Refusal {
-    /// `Ok` for number 0, else the refusal that was told.
-    ///
-    /// # Panics
-    ///
-    /// When the number is none of document 01's.
+    /// `Ok` for number 0, else the refusal that an exported call told.
     pub fn check(told: Told) -> Result<(), Refusal> {
         match told.number {
             0 => Ok(()),
-            _ => Err(Self::from_told(told)
-                .unwrap_or_else(|| panic!("document 01 has no refusal {}", told.number))),
+            _ => Err(Self::from_told(told)),
         }
     }
 
-    /// The refusal of a number and its values, `None` where document 01 has no such number.
-    pub fn from_told(told: Told) -> Option<Refusal> {
+    fn from_told(told: Told) -> Refusal {
         let (actor, seq) = (ActorId(told.first), told.second);
         let limit = told.first;
-        Some(match told.number {
+        match told.number {
             1 => Self::UnsoundStore,
             2 => Self::ShortArea,
             3 => Self::Unreadable,
@@ -113,8 +191,8 @@ impl Refusal {
             23 => Self::VarintOverflow,
             24 => Self::TooLarge,
             25 => Self::TrailingBytes,
-            _ => return None,
-        })
+            _ => Self::UnknownAnswer(told),
+        }
     }
 
     /// Number and values, as an exported call tells them. Values that a refusal does not carry are 0.
@@ -148,6 +226,7 @@ impl Refusal {
             Self::VarintOverflow => (23, 0, 0),
             Self::TooLarge => (24, 0, 0),
             Self::TrailingBytes => (25, 0, 0),
+            Self::UnknownAnswer(told) => return told,
         };
         Told {
             number,
@@ -163,48 +242,120 @@ impl Refusal {
 
     /// Document 01's word.
     pub fn word(self) -> &'static str {
+        self.explained().word
+    }
+
+    /// What it means.
+    pub fn meaning(self) -> &'static str {
+        self.explained().meaning
+    }
+
+    /// What the caller can do.
+    pub fn advice(self) -> &'static str {
+        self.explained().advice
+    }
+
+    /// What document 01's refusal of this number means, whatever its values.
+    ///
+    /// ```
+    /// use cuwelfra::Refusal;
+    ///
+    /// let full = Refusal::explain(17).expect("a number from 1 to 25");
+    /// assert_eq!(full.word, "log full");
+    /// assert!(full.advice.starts_with("Compact the log"));
+    /// assert_eq!(Refusal::explain(26), None);
+    /// ```
+    pub fn explain(number: u64) -> Option<&'static Explained> {
+        EXPLAINED.iter().find(|known| known.number == number)
+    }
+
+    fn explained(self) -> &'static Explained {
         match self {
-            Self::UnsoundStore => "unsound store",
-            Self::ShortArea => "short area",
-            Self::Unreadable => "unreadable",
-            Self::OverCapacity => "over capacity",
-            Self::ZeroSequence { .. } => "zero sequence",
-            Self::ForeignStamp { .. } => "foreign stamp",
-            Self::SpentCounter { .. } => "spent counter",
-            Self::PayloadTooLarge { .. } => "payload too large",
-            Self::TooManyCauses { .. } => "too many causes",
-            Self::OwnFuture { .. } => "own future",
-            Self::AheadOfTime { .. } => "ahead of time",
-            Self::BadSignature { .. } => "bad signature",
-            Self::Conflict { .. } => "conflict",
-            Self::HeldOverflow { .. } => "held overflow",
-            Self::HeldBytes { .. } => "held bytes",
-            Self::AuthorOverflow { .. } => "author overflow",
-            Self::LogFull => "log full",
-            Self::AuthorsFull => "authors full",
-            Self::CounterOverflow => "counter overflow",
-            Self::RemoteAhead { .. } => "remote ahead",
-            Self::UnaskedPong => "unasked pong",
-            Self::Truncated => "truncated",
-            Self::VarintOverflow => "overflow",
-            Self::TooLarge => "too large",
-            Self::TrailingBytes => "trailing",
+            Self::UnknownAnswer(_) => &UNKNOWN,
+            _ => Self::explain(self.number()).unwrap_or(&UNKNOWN),
         }
     }
 }
 
 impl fmt::Display for Refusal {
     fn fmt(&self, f: &mut fmt::Formatter<'_>) -> fmt::Result {
-        let told = self.told();
-        write!(f, "{}", self.word())?;
-        match told.number {
-            5..=13 => write!(f, ": author {}, sequence {}", told.first, told.second),
-            14 | 15 => write!(f, ": limit {}", told.first),
-            16 => write!(f, ": limit {}, author {}", told.first, told.second),
-            20 => write!(f, ": remote {}, local {}", told.first, told.second),
-            _ => Ok(()),
+        let (told, known) = (self.told(), self.explained());
+        write!(f, "refusal {}, {}", told.number, known.word)?;
+        let values = known.values.iter().zip([told.first, told.second]);
+        for (mark, (name, value)) in [": ", ", "].into_iter().zip(values) {
+            write!(f, "{mark}{name} {value}")?;
         }
+        Ok(())
     }
 }
 
 impl Error for Refusal {}
+
+#[cfg(test)]
+mod tests {
+    use super::*;
+
+    #[test]
+    fn every_number_is_explained_in_its_place() {
+        for number in 1..=25 {
+            let told = Told {
+                number,
+                first: 7,
+                second: 8,
+            };
+            let refusal = Refusal::from_told(told);
+            assert_ne!(refusal, Refusal::UnknownAnswer(told));
+            let explained = refusal.explained();
+            assert_eq!(explained.number, number);
+            let carried = [refusal.told().first, refusal.told().second];
+            let carried = carried.into_iter().filter(|value| *value != 0);
+            assert_eq!(explained.values.len(), carried.count(), "{refusal}");
+            for text in [explained.meaning, explained.advice] {
+                assert!(text.ends_with('.') && !text.contains("  "), "{text}");
+            }
+        }
+    }
+
+    #[test]
+    fn what_document_01_does_not_have_is_handed_on() {
+        let told = Told {
+            number: 26,
+            first: 1,
+            second: 2,
+        };
+        let refusal = Refusal::UnknownAnswer(told);
+        assert_eq!(Refusal::check(told), Err(refusal));
+        assert_eq!(refusal.told(), told);
+        let text = "refusal 26, unknown answer: first value 1, second value 2";
+        assert_eq!(refusal.to_string(), text);
+        assert_eq!(Refusal::check(Told::default()), Ok(()));
+    }
+
+    #[test]
+    fn values_are_named() {
+        let texts = [
+            (Refusal::LogFull, "refusal 17, log full"),
+            (
+                Refusal::HeldOverflow { limit: 3 },
+                "refusal 14, held overflow: limit 3",
+            ),
+            (
+                Refusal::AuthorOverflow {
+                    limit: 3,
+                    actor: ActorId(9),
+                },
+                "refusal 16, author overflow: limit 3, author 9",
+            ),
+            (
+                Refusal::RemoteAhead {
+                    remote_wall: 5,
+                    local_wall: 4,
+                },
+                "refusal 20, remote ahead: remote wall 5, local wall 4",
+            ),
+        ];
+        for (refusal, text) in texts {
+            assert_eq!(refusal.to_string(), text);
+        }
+    }
+}

@@ -2,69 +2,133 @@
 
 use cuwelfra_sys as sys;
 
-use crate::words::{set_word, word};
-use crate::{ActorId, Refusal, Timestamp};
+use crate::batch::{outcome_of, parts_of};
+use crate::clock::pairs;
+use crate::codec::next;
+use crate::words::{part, set_bytes, set_word, size, word};
+use crate::{ActorId, Outcome, Refusal, Timestamp};
 
 /// Bytes of a slot.
 pub const SLOT_BYTES: usize = 704;
-/// Dependencies of a row.
+/// Dependencies of a row at most.
 pub const MAX_DEPS: usize = 16;
-/// Payload bytes of a row.
+/// Payload bytes of a row at most.
 pub const MAX_PAYLOAD: usize = 256;
-/// Signature bytes of a row.
+/// Signature bytes of a row at most.
 pub const MAX_SIGNATURE: usize = 64;
 /// Bytes that hold any row as [`Slot::signed_op`] writes it.
 pub const MAX_OP_BYTES: usize = 704;
 
+const DEPS_LEN: usize = 40;
+const PAYLOAD_LEN: usize = 48;
+const SIGNATURE_LEN: usize = 56;
 const ARRIVAL: usize = 64;
 const OUTCOME: usize = 72;
 const DETAIL: usize = 80;
 const DEPS: usize = 128;
-const PAYLOAD: usize = 384;
+pub(crate) const PAYLOAD: usize = 384;
 const SIGNATURE: usize = 640;
 
 /// An operation with its stamp, author, sequence and dependencies.
-#[derive(Clone, Debug, PartialEq, Eq)]
+///
+/// ```
+/// use cuwelfra::{ActorId, Row, Timestamp};
+///
+/// // Author 1's third row, which needs author 2's first.
+/// let row = Row::new(Timestamp::new(1_030, 0, ActorId(1)), 3, "Kette = chain").needs(ActorId(2), 1);
+/// assert_eq!(row.actor, ActorId(1));
+/// // What its author signs: five numbers, the dependencies and the payload.
+/// let signing = row.signing_bytes().expect("a row within capacity");
+/// assert_eq!(signing[..5], [0x86, 0x08, 0, 1, 1]);
+/// ```
+#[derive(Clone, Debug, PartialEq, Eq, Hash)]
 pub struct Row {
     /// The stamp.
     pub timestamp: Timestamp,
-    /// The author.
+    /// The author, who must be the stamp's.
     pub actor: ActorId,
-    /// The author's number for it.
+    /// The author's number for it, from 1.
     pub seq: u64,
     /// Authors, strictly rising, and how far each must be logged before this row.
     pub deps: Vec<(ActorId, u64)>,
     /// The operation.
     pub payload: Vec<u8>,
-    /// The author's signature.
+    /// The author's signature over [`Row::signing_bytes`].
     pub signature: Vec<u8>,
 }
 
-/// A row with its arrival and what came with it in its batch. A logged row has zeros there.
+impl Row {
+    /// A row of the stamp's author, without dependencies and not signed.
+    pub fn new(timestamp: Timestamp, seq: u64, payload: impl Into<Vec<u8>>) -> Self {
+        Self {
+            timestamp,
+            actor: timestamp.actor_id,
+            seq,
+            deps: Vec::new(),
+            payload: payload.into(),
+            signature: Vec::new(),
+        }
+    }
+
+    /// The row with one more dependency, on a greater author than those before.
+    pub fn needs(mut self, actor: ActorId, seq: u64) -> Self {
+        self.deps.push((actor, seq));
+        self
+    }
+
+    /// The row with this signature.
+    pub fn signed(mut self, signature: impl Into<Vec<u8>>) -> Self {
+        self.signature = signature.into();
+        self
+    }
+
+    /// What its author signs: all of it but the signature; 4 for a size above capacity, 3 for dependencies that do not
+    /// rise.
+    pub fn signing_bytes(&self) -> Result<Vec<u8>, Refusal> {
+        let mut bytes = vec![0; MAX_OP_BYTES];
+        let len = Slot::logged(self)?.unsigned_op(&mut bytes)?;
+        bytes.truncate(len);
+        Ok(bytes)
+    }
+}
+
+/// A row with its arrival and what came with it in its batch. A logged row has arrival 0 and fits.
 #[derive(Clone, Debug, PartialEq, Eq)]
 pub struct HeldRow {
     /// The row.
     pub row: Row,
     /// When it arrived, in ms.
     pub arrived_ms: u64,
-    /// 0 fits, 1 to 4 the outcomes of document 01.
-    pub outcome: u8,
-    /// The tag for outcome 2, the text number for 4, else 0.
-    pub detail: u8,
+    /// What policy and state said of it.
+    pub outcome: Outcome,
 }
 
-/// A row that was read from a batch.
+/// A slot that was read from a batch.
 #[derive(Clone, Debug, PartialEq, Eq)]
-pub struct BatchRow {
-    /// Its slot, with arrival 0.
+pub struct SlotRead {
+    /// The slot, with arrival 0.
     pub slot: Slot,
     /// The verifier's answer.
     pub verdict: bool,
-    /// The position past it.
+    /// The position past the row.
     pub next: usize,
 }
 
-/// A row in its slot.
+/// A row in its slot of 704 bytes.
+///
+/// ```
+/// use cuwelfra::{ActorId, Refusal, Row, Slot, Timestamp};
+///
+/// let row = Row::new(Timestamp::new(10, 0, ActorId(1)), 1, "Kette = chain");
+/// let slot = Slot::logged(&row)?;
+/// assert_eq!(slot.row()?.row, row);
+///
+/// // Bytes 88 to 127 of a slot are zero.
+/// let mut area = *slot.area();
+/// area[90] = 1;
+/// assert_eq!(Slot::from_area(area).row(), Err(Refusal::UnsoundStore));
+/// # Ok::<(), Refusal>(())
+/// ```
 #[derive(Clone, Debug, PartialEq, Eq)]
 pub struct Slot([u8; SLOT_BYTES]);
 
@@ -77,7 +141,7 @@ impl Slot {
         {
             return Err(Refusal::OverCapacity);
         }
-        if row.deps.windows(2).any(|pair| pair[0].0 >= pair[1].0) {
+        if !row.deps.is_sorted_by(|one, next| one.0 < next.0) {
             return Err(Refusal::Unreadable);
         }
         let mut area = [0; SLOT_BYTES];
@@ -98,20 +162,18 @@ impl Slot {
             set_word(&mut area, DEPS + 16 * i, author.0);
             set_word(&mut area, DEPS + 16 * i + 8, *number);
         }
-        area[PAYLOAD..][..row.payload.len()].copy_from_slice(&row.payload);
-        area[SIGNATURE..][..row.signature.len()].copy_from_slice(&row.signature);
+        set_bytes(&mut area, PAYLOAD, &row.payload);
+        set_bytes(&mut area, SIGNATURE, &row.signature);
         Ok(Self(area))
     }
 
-    /// The slot of a held row; 4 and 3 as for a logged one, 3 for an outcome or detail that document 01 has not.
+    /// The slot of a held row; 4 and 3 as for a logged one.
     pub fn held(held: &HeldRow) -> Result<Self, Refusal> {
         let mut slot = Self::logged(&held.row)?;
-        if !outcome_fits(held.outcome, held.detail) {
-            return Err(Refusal::Unreadable);
-        }
+        let (outcome, detail) = parts_of(held.outcome);
         set_word(&mut slot.0, ARRIVAL, held.arrived_ms);
-        set_word(&mut slot.0, OUTCOME, u64::from(held.outcome));
-        set_word(&mut slot.0, DETAIL, u64::from(held.detail));
+        set_word(&mut slot.0, OUTCOME, u64::from(outcome));
+        set_word(&mut slot.0, DETAIL, u64::from(detail));
         Ok(slot)
     }
 
@@ -127,74 +189,146 @@ impl Slot {
 
     /// The row; 1 where the slot does not read.
     pub fn row(&self) -> Result<HeldRow, Refusal> {
-        let read = self.read_row().ok_or(Refusal::UnsoundStore)?;
+        let read = row_in(&self.0)?;
         match Self::held(&read) {
             Ok(slot) if slot == *self => Ok(read),
             _ => Err(Refusal::UnsoundStore),
         }
     }
 
-    fn read_row(&self) -> Option<HeldRow> {
-        let scalar = |i: usize| word(&self.0, 8 * i);
-        let size = |i: usize, max: usize| {
-            let size = usize::try_from(scalar(i)).ok()?;
-            (size <= max).then_some(size)
-        };
-        let deps = (0..size(5, MAX_DEPS)?).map(|i| {
-            let at = DEPS + 16 * i;
-            (ActorId(word(&self.0, at)), word(&self.0, at + 8))
-        });
-        Some(HeldRow {
-            row: Row {
-                timestamp: Timestamp {
-                    wall_time: scalar(0),
-                    logical_counter: u32::try_from(scalar(1)).ok()?,
-                    actor_id: ActorId(scalar(2)),
-                },
-                actor: ActorId(scalar(3)),
-                seq: scalar(4),
-                deps: deps.collect(),
-                payload: self.0[PAYLOAD..][..size(6, MAX_PAYLOAD)?].to_vec(),
-                signature: self.0[SIGNATURE..][..size(7, MAX_SIGNATURE)?].to_vec(),
-            },
-            arrived_ms: word(&self.0, ARRIVAL),
-            outcome: u8::try_from(word(&self.0, OUTCOME)).ok()?,
-            detail: u8::try_from(word(&self.0, DETAIL)).ok()?,
-        })
-    }
-
     /// Writes what is signed at the start of `out` and gives its length; 1, 2.
     pub fn unsigned_op(&self, out: &mut [u8]) -> Result<usize, Refusal> {
-        written(sys::unsigned_op(&self.0, out))
+        next(sys::unsigned_op(&self.0, out))
     }
 
     /// The same with the signature; 1, 2.
     pub fn signed_op(&self, out: &mut [u8]) -> Result<usize, Refusal> {
-        written(sys::signed_op(&self.0, out))
+        next(sys::signed_op(&self.0, out))
     }
 
     /// Reads the batch row at `at`; 3, 4.
-    pub fn read(batch: &[u8], at: usize) -> Result<BatchRow, Refusal> {
+    pub fn read(batch: &[u8], at: usize) -> Result<SlotRead, Refusal> {
         let mut area = [0; SLOT_BYTES];
         let read = sys::read_op(batch, at, &mut area);
         Refusal::check(read.told)?;
-        Ok(BatchRow {
+        Ok(SlotRead {
             slot: Self(area),
             verdict: read.verdict == 1,
-            next: read.next as usize,
+            next: size(read.next),
         })
     }
 }
 
-fn outcome_fits(outcome: u8, detail: u8) -> bool {
-    match outcome {
-        2 | 4 => true,
-        0 | 1 | 3 => detail == 0,
-        _ => false,
-    }
+/// The row in a slot; 1 where a number does not fit. That the rest is zero is not tested.
+pub(crate) fn row_in(area: &[u8; SLOT_BYTES]) -> Result<HeldRow, Refusal> {
+    read(area).ok_or(Refusal::UnsoundStore)
 }
 
-fn written(written: sys::Written) -> Result<usize, Refusal> {
-    Refusal::check(written.told)?;
-    Ok(written.next as usize)
+fn read(area: &[u8; SLOT_BYTES]) -> Option<HeldRow> {
+    let sized = |at: usize, len_at: usize, max: usize| {
+        let len = word(area, len_at);
+        let bytes = part(area, at, len).ok()?;
+        (size(len) <= max).then(|| bytes.to_vec())
+    };
+    let deps = size(word(area, DEPS_LEN));
+    let timestamp = Timestamp::new(
+        word(area, 0),
+        u32::try_from(word(area, 8)).ok()?,
+        ActorId(word(area, 16)),
+    );
+    let row = Row {
+        timestamp,
+        actor: ActorId(word(area, 24)),
+        seq: word(area, 32),
+        deps: (deps <= MAX_DEPS).then(|| pairs(area, DEPS, deps).collect())?,
+        payload: sized(PAYLOAD, PAYLOAD_LEN, MAX_PAYLOAD)?,
+        signature: sized(SIGNATURE, SIGNATURE_LEN, MAX_SIGNATURE)?,
+    };
+    let outcome = u8::try_from(word(area, OUTCOME)).ok()?;
+    let detail = u8::try_from(word(area, DETAIL)).ok()?;
+    Some(HeldRow {
+        row,
+        arrived_ms: word(area, ARRIVAL),
+        outcome: outcome_of(outcome, detail)?,
+    })
+}
+
+#[cfg(test)]
+mod tests {
+    use super::*;
+    use crate::ApplyError;
+
+    /// A row of the largest sizes.
+    fn largest() -> Row {
+        let row = Row::new(Timestamp::new(u64::MAX, u32::MAX, ActorId(5)), 7, [1; 256]);
+        let needs = |row: Row, i| row.needs(ActorId(i), u64::MAX - i);
+        (0..16).fold(row, needs).signed([2; 64])
+    }
+
+    #[test]
+    fn a_slot_gives_its_row_back() -> Result<(), Refusal> {
+        let outcomes = [
+            Ok(()),
+            Err(ApplyError::MalformedOp),
+            Err(ApplyError::UnknownOpTag(0)),
+            Err(ApplyError::UnknownOpTag(255)),
+            Err(ApplyError::Denied),
+            Err(ApplyError::Invalid(9)),
+        ];
+        for row in [Row::new(Timestamp::new(0, 0, ActorId(0)), 0, ""), largest()] {
+            for outcome in outcomes {
+                let held = HeldRow {
+                    row: row.clone(),
+                    arrived_ms: 3,
+                    outcome,
+                };
+                assert_eq!(Slot::held(&held)?.row(), Ok(held));
+            }
+        }
+        Ok(())
+    }
+
+    #[test]
+    fn what_fits_no_slot_is_refused() {
+        let row = largest();
+        let mut payload = row.clone();
+        payload.payload.push(0);
+        let mut signature = row.clone();
+        signature.signature.push(0);
+        let deps = row.clone().needs(ActorId(16), 0);
+        for row in [payload, signature, deps] {
+            assert_eq!(Slot::logged(&row), Err(Refusal::OverCapacity));
+        }
+        let mut twice = row;
+        twice.deps.truncate(1);
+        let twice = twice.needs(ActorId(0), 0);
+        assert_eq!(Slot::logged(&twice), Err(Refusal::Unreadable));
+    }
+
+    #[test]
+    fn a_slot_that_is_no_rows_does_not_read() -> Result<(), Refusal> {
+        let slot = Slot::logged(&Row::new(Timestamp::new(1, 2, ActorId(3)), 4, "abc"))?;
+        // A counter of 33 bits, sizes above capacity, outcomes and details, and bytes that are not used.
+        let damages = [
+            (8, 1 << 32),
+            (40, 17),
+            (48, 257),
+            (48, 2),
+            (48, u64::MAX),
+            (56, 65),
+            (72, 5),
+            (72, 1 << 8),
+            (80, 1),
+            (88, 1),
+            (128, 1),
+            (696, 1),
+        ];
+        for (at, value) in damages {
+            let mut area = *slot.area();
+            set_word(&mut area, at, value);
+            let read = Slot::from_area(area).row();
+            assert_eq!(read, Err(Refusal::UnsoundStore), "{value} at {at}");
+        }
+        Ok(())
+    }
 }

@@ -1,10 +1,14 @@
 //! The store: logged rows, held rows, clocks, watermarks and floor.
 
+use std::fmt;
+
 use cuwelfra_sys as sys;
 
 use crate::clock::number;
-use crate::words::word;
-use crate::{ActorId, HeldRow, Refusal, Slot, Timestamp, VectorClock, CLOCK_BYTES, SLOT_BYTES};
+use crate::row::{row_in, PAYLOAD};
+use crate::words::{misfit, part, size};
+use crate::{ActorId, HeldRow, Refusal, Row, Slot, Timestamp, VectorClock};
+use crate::{CLOCK_BYTES, SLOT_BYTES};
 
 /// Rows of a log at most.
 pub const MAX_LOGGED: usize = 1_024;
@@ -15,12 +19,62 @@ pub const HELD_BYTES: usize = MAX_HELD * SLOT_BYTES;
 /// Bytes of a head area.
 pub const HEAD_BYTES: usize = 2_120;
 
-/// A store in three areas. Every call refuses areas that break the rules, with 1, and short ones, with 2.
-#[derive(Clone, Debug, PartialEq, Eq)]
+/// A store in three areas: logged rows, held rows, and the head with counts, floor, clocks and watermarks.
+///
+/// Every call refuses areas that break the rules, with 1, and short ones, with 2. A refusal leaves the store. Stores are
+/// equal when their areas are.
+///
+/// ```
+/// use cuwelfra::{ActorId, Batch, Limits, Refusal, Row, Store, Timestamp};
+///
+/// let limits = Limits::default();
+/// let mut store = Store::with_capacity(16)?;
+///
+/// // Author 2's first row needs author 1's first, which is not here yet: it waits.
+/// let answer = Row::new(Timestamp::new(20, 0, ActorId(2)), 1, "Kette = chain").needs(ActorId(1), 1);
+/// let mut batch = Batch::new();
+/// batch.push(&answer, true, Ok(()))?;
+/// let report = store.apply_remote_ops(&limits, 1_000, batch.bytes())?;
+/// assert_eq!((report.applied, report.held), (0, 1));
+/// assert_eq!(store.pending()?[0].row, answer);
+///
+/// // With it both are logged.
+/// let question = Row::new(Timestamp::new(10, 0, ActorId(1)), 1, "Kette = ?");
+/// let mut batch = Batch::new();
+/// batch.push(&question, true, Ok(()))?;
+/// let report = store.apply_remote_ops(&limits, 1_001, batch.bytes())?;
+/// assert_eq!((report.applied, report.held), (2, 0));
+/// assert_eq!(report.logged[1].actor, ActorId(2));
+/// assert_eq!(store.ops()?, [question, answer]);
+/// assert_eq!(store.clock()?.get(ActorId(2)), Ok(1));
+/// # Ok::<(), Refusal>(())
+/// ```
+#[derive(Clone)]
 pub struct Store {
     log: Vec<u8>,
     held: Vec<u8>,
     head: Vec<u8>,
+    /// Lent to batch calls, which leave it zero.
+    scratch: Vec<u8>,
+}
+
+impl PartialEq for Store {
+    fn eq(&self, other: &Self) -> bool {
+        self.areas() == other.areas()
+    }
+}
+
+impl Eq for Store {}
+
+impl fmt::Debug for Store {
+    /// The counts, or why there are none.
+    fn fmt(&self, f: &mut fmt::Formatter<'_>) -> fmt::Result {
+        f.debug_struct("Store")
+            .field("capacity", &self.capacity())
+            .field("logged", &self.log_len())
+            .field("held", &self.pending_len())
+            .finish_non_exhaustive()
+    }
 }
 
 /// Where a row stands.
@@ -46,18 +100,40 @@ impl Store {
     pub fn with_capacity(rows: usize) -> Result<Self, Refusal> {
         match rows {
             0 => Err(Refusal::ShortArea),
-            1..=MAX_LOGGED => Ok(Self {
-                log: vec![0; rows * SLOT_BYTES],
-                held: vec![0; HELD_BYTES],
-                head: vec![0; HEAD_BYTES],
-            }),
+            1..=MAX_LOGGED => Ok(Self::from_areas(
+                vec![0; rows * SLOT_BYTES],
+                vec![0; HELD_BYTES],
+                vec![0; HEAD_BYTES],
+            )),
             _ => Err(Refusal::OverCapacity),
         }
     }
 
-    /// Takes over three areas.
+    /// Takes over three areas, as [`Store::areas`] gave them. [`Store::check`] says whether they keep the rules.
+    ///
+    /// ```
+    /// use cuwelfra::{Refusal, Store, HEAD_BYTES, HELD_BYTES, SLOT_BYTES};
+    ///
+    /// // Areas of zeros are the empty store.
+    /// let (log, held, head) = (vec![0; 16 * SLOT_BYTES], vec![0; HELD_BYTES], vec![0; HEAD_BYTES]);
+    /// let store = Store::from_areas(log, held, head);
+    /// assert_eq!(store, Store::with_capacity(16)?);
+    /// assert_eq!(store.check(), Ok(()));
+    ///
+    /// // One row counted, none there.
+    /// let (log, held, mut head) = store.into_areas();
+    /// head[7] = 1;
+    /// let damaged = Store::from_areas(log, held, head);
+    /// assert_eq!(damaged.check(), Err(Refusal::UnsoundStore));
+    /// # Ok::<(), Refusal>(())
+    /// ```
     pub fn from_areas(log: Vec<u8>, held: Vec<u8>, head: Vec<u8>) -> Self {
-        Self { log, held, head }
+        Self {
+            log,
+            held,
+            head,
+            scratch: Vec::new(),
+        }
     }
 
     /// The three areas: log, held, head.
@@ -78,12 +154,24 @@ impl Store {
         }
     }
 
-    pub(crate) fn lent_mut(&mut self) -> sys::AreasMut<'_> {
-        sys::AreasMut {
+    /// The areas, and scratch for so many rows.
+    pub(crate) fn lent_mut(&mut self, rows: usize) -> (sys::AreasMut<'_>, &mut [u8]) {
+        let needed = rows * SLOT_BYTES;
+        if self.scratch.len() < needed {
+            self.scratch.resize(needed, 0);
+        }
+        let areas = sys::AreasMut {
             log: &mut self.log,
             held: &mut self.held,
             head: &mut self.head,
-        }
+        };
+        let scratch = self.scratch.get_mut(..needed).unwrap_or_default();
+        (areas, scratch)
+    }
+
+    /// How many rows the log has room for, those that it has included.
+    pub fn capacity(&self) -> usize {
+        (self.log.len() / SLOT_BYTES).min(MAX_LOGGED)
     }
 
     /// Makes the store anew: these logged rows, inserted one after the other, above this compacted clock; 1, 17, 18.
@@ -106,24 +194,46 @@ impl Store {
 
     /// How many rows are logged.
     pub fn log_len(&self) -> Result<usize, Refusal> {
-        number(sys::log_len(self.lent())).map(|rows| rows as usize)
+        number(sys::log_len(self.lent())).map(size)
     }
 
     /// How many rows are held.
     pub fn pending_len(&self) -> Result<usize, Refusal> {
-        number(sys::pending_len(self.lent())).map(|rows| rows as usize)
+        number(sys::pending_len(self.lent())).map(size)
     }
 
-    /// The logged row at a position, `None` past the last.
+    /// The logged rows, in log order.
+    pub fn ops(&self) -> Result<Vec<Row>, Refusal> {
+        let rows = first_rows(&self.log, self.log_len()?)?;
+        rows.iter()
+            .map(|slot| row_in(slot).map(|row| row.row))
+            .collect()
+    }
+
+    /// The held rows, by stamp, author and sequence.
+    pub fn pending(&self) -> Result<Vec<HeldRow>, Refusal> {
+        let rows = first_rows(&self.held, self.pending_len()?)?;
+        rows.iter().map(row_in).collect()
+    }
+
+    /// The logged row at a position, `None` past the last. [`Store::ops`] gives all of them after one test of the
+    /// store.
     pub fn logged(&self, position: usize) -> Result<Option<HeldRow>, Refusal> {
-        let rows = self.log_len()?;
-        slot(&self.log, position, rows)
+        let rows = first_rows(&self.log, self.log_len()?)?;
+        rows.get(position).map(row_in).transpose()
     }
 
-    /// The held row at a position, `None` past the last.
+    /// The held row at a position, `None` past the last. [`Store::pending`] gives all of them after one test of the
+    /// store.
     pub fn held(&self, position: usize) -> Result<Option<HeldRow>, Refusal> {
-        let rows = self.pending_len()?;
-        slot(&self.held, position, rows)
+        let rows = first_rows(&self.held, self.pending_len()?)?;
+        rows.get(position).map(row_in).transpose()
+    }
+
+    /// The row in a slot of the log that an answer names.
+    pub(crate) fn row_at(&self, position: usize) -> Result<Row, Refusal> {
+        let slot = self.log.as_chunks().0.get(position).ok_or(misfit())?;
+        row_in(slot).map(|row| row.row)
     }
 
     /// The floor.
@@ -160,12 +270,14 @@ impl Store {
     pub fn lookup(&self, actor: ActorId, seq: u64) -> Result<Option<Found<'_>>, Refusal> {
         let told = sys::lookup(self.lent(), actor.0, seq);
         Refusal::check(told.told)?;
+        let slot = size(told.slot);
         let (area, place) = match told.place {
             0 => return Ok(None),
-            1 => (&self.log, Place::Logged(told.slot as usize)),
-            _ => (&self.held, Place::Held(told.slot as usize)),
+            1 => (&self.log, Place::Logged(slot)),
+            _ => (&self.held, Place::Held(slot)),
         };
-        let payload = &area[told.slot as usize * 704 + 384..][..told.len as usize];
+        let at = slot.saturating_mul(SLOT_BYTES).saturating_add(PAYLOAD);
+        let payload = part(area, at, told.len)?;
         Ok(Some(Found { place, payload }))
     }
 
@@ -182,50 +294,18 @@ impl Store {
     /// Removes the rows whose stamps are at or below the cutoff and gives how many.
     pub fn compact(&mut self, cutoff: &Timestamp) -> Result<usize, Refusal> {
         let removed = sys::compact(&mut self.log, &self.held, &mut self.head, cutoff.parts());
-        number(removed).map(|rows| rows as usize)
+        number(removed).map(size)
     }
 
     /// The latest stamp that is safe to compact to.
     pub fn cutoff(&self, frontier: &VectorClock) -> Result<Option<Timestamp>, Refusal> {
         stamp(sys::cutoff(self.lent(), frontier.area()))
     }
-
-    /// The log positions of the rows that a peer with this clock lacks, in log order.
-    pub fn delta(&self, peer: &VectorClock) -> Result<Vec<usize>, Refusal> {
-        self.listed(|output| sys::calculate_delta(self.lent(), peer.area(), output))
-    }
-
-    /// The row counts of that delta's chunks.
-    pub fn chunks(
-        &self,
-        peer: &VectorClock,
-        max_per_chunk: u64,
-        max_bytes: u64,
-    ) -> Result<Vec<usize>, Refusal> {
-        self.listed(|output| {
-            sys::chunk_ops(self.lent(), peer.area(), max_per_chunk, max_bytes, output)
-        })
-    }
-
-    /// The numbers that a call lists, at most one for each slot of the log.
-    fn listed(
-        &self,
-        call: impl FnOnce(&mut [u8]) -> sys::ClockNumber,
-    ) -> Result<Vec<usize>, Refusal> {
-        let slots = (self.log.len() / SLOT_BYTES).min(MAX_LOGGED);
-        let mut output = vec![0; 8 * slots];
-        let count = number(call(&mut output))? as usize;
-        Ok((0..count).map(|i| word(&output, 8 * i) as usize).collect())
-    }
 }
 
-fn slot(area: &[u8], position: usize, rows: usize) -> Result<Option<HeldRow>, Refusal> {
-    if position >= rows {
-        return Ok(None);
-    }
-    let bytes = area[position * SLOT_BYTES..][..SLOT_BYTES].try_into();
-    let slot = Slot::from_area(bytes.expect("a slot's bytes"));
-    slot.row().map(Some)
+/// So many slots from the start of an area.
+fn first_rows(area: &[u8], rows: usize) -> Result<&[[u8; SLOT_BYTES]], Refusal> {
+    area.as_chunks().0.get(..rows).ok_or(misfit())
 }
 
 fn clock(call: impl FnOnce(&mut [u8]) -> sys::Told) -> Result<VectorClock, Refusal> {
@@ -236,9 +316,78 @@ fn clock(call: impl FnOnce(&mut [u8]) -> sys::Told) -> Result<VectorClock, Refus
 
 fn stamp(told: sys::StampTold) -> Result<Option<Timestamp>, Refusal> {
     Refusal::check(told.told)?;
-    Ok((told.present == 1).then_some(Timestamp {
-        wall_time: told.wall_time,
-        logical_counter: told.logical_counter as u32,
-        actor_id: ActorId(told.actor_id),
-    }))
+    let stamp = Timestamp::new(
+        told.wall_time,
+        told.logical_counter as u32,
+        ActorId(told.actor_id),
+    );
+    Ok((told.present == 1).then_some(stamp))
+}
+
+#[cfg(test)]
+mod tests {
+    use super::*;
+    use crate::{Batch, Limits};
+
+    /// A store with a row logged and one that waits.
+    fn store() -> Result<Store, Refusal> {
+        let mut batch = Batch::new();
+        for seq in [1, 3] {
+            let row = Row::new(Timestamp::new(10 * seq, 0, ActorId(1)), seq, "Kette");
+            batch.push(&row, true, Ok(()))?;
+        }
+        let mut store = Store::with_capacity(4)?;
+        store.apply_remote_ops(&Limits::default(), 100, batch.bytes())?;
+        Ok(store)
+    }
+
+    #[test]
+    fn scratch_is_left_zero_and_is_not_compared() -> Result<(), Refusal> {
+        let store = store()?;
+        assert_eq!(store.scratch, [0; 2 * SLOT_BYTES]);
+        let (log, held, head) = store.clone().into_areas();
+        let taken = Store::from_areas(log, held, head);
+        assert_eq!(taken.scratch, []);
+        assert_eq!(taken, store);
+        Ok(())
+    }
+
+    #[test]
+    fn each_area_is_compared() -> Result<(), Refusal> {
+        let store = store()?;
+        for i in 0..3 {
+            let (mut log, mut held, mut head) = store.clone().into_areas();
+            [&mut log, &mut held, &mut head][i][8] ^= 1;
+            assert_ne!(Store::from_areas(log, held, head), store);
+        }
+        Ok(())
+    }
+
+    #[test]
+    fn rows_by_position_are_the_rows_in_order() -> Result<(), Refusal> {
+        let store = store()?;
+        let logged = store.logged(0)?.map(|row| row.row);
+        assert_eq!(store.ops()?, Vec::from_iter(logged));
+        assert_eq!(store.pending()?, Vec::from_iter(store.held(0)?));
+        assert_eq!(store.logged(1), Ok(None));
+        assert_eq!(store.held(1), Ok(None));
+        assert_eq!(store.pending()?[0].arrived_ms, 100);
+        Ok(())
+    }
+
+    #[test]
+    fn short_areas_are_refused_and_nothing_panics() {
+        for log in [0, SLOT_BYTES - 1, SLOT_BYTES] {
+            for held in [0, HELD_BYTES - 1, HELD_BYTES] {
+                for head in [0, 15, HEAD_BYTES - 1] {
+                    let areas = [log, held, head].map(|len| vec![0xff; len]);
+                    let [log, held, head] = areas;
+                    let mut store = Store::from_areas(log, held, head);
+                    let told = store.apply_remote_ops(&Limits::default(), 0, &[0xff]);
+                    assert_eq!(told, Err(Refusal::ShortArea));
+                    assert_eq!(store.ops(), Err(Refusal::ShortArea));
+                }
+            }
+        }
+    }
 }

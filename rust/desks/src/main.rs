@@ -38,11 +38,7 @@ impl fmt::Display for Error {
             Self::Read(file, error) => write!(f, "{}: {error}", file.display()),
             Self::Text(file, unreadable) => write!(f, "{}, {unreadable}", file.display()),
             Self::Store(refusal) => {
-                write!(
-                    f,
-                    "the store refuses a question with {}, {refusal}",
-                    refusal.number()
-                )
+                write!(f, "the store does not answer: {refusal}")
             }
             Self::Write(error) => write!(f, "cannot print: {error}"),
         }

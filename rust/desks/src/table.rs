@@ -104,10 +104,7 @@ fn call(told: &Told) -> Vec<String> {
         }
         Err(refusal) => {
             cells.extend([const { String::new() }; 7]);
-            cells.push(format!(
-                "none: refused with {}, {refusal}",
-                refusal.number()
-            ));
+            cells.push(format!("none: {refusal}"));
         }
     }
     cells

@@ -1,6 +1,6 @@
 //! Batch calls through the wrapper, on batches that the wrapper builds.
 
-use cuwelfra::{ApplyError, Batch, Fate, Logged, Report};
+use cuwelfra::{ApplyError, Batch, Fate, Logged, Outcome, Report};
 use cuwelfra_sys::Told;
 
 use crate::batches::{batch, Answer, BatchRow, Line};
@@ -29,14 +29,15 @@ pub fn same_call(
 fn build(rows: &[BatchRow]) -> Batch {
     let mut batch = Batch::new();
     for lent in rows {
-        let outcome = match rejected(lent.outcome, lent.detail) {
-            None => Ok(()),
-            Some(error) => Err(error),
-        };
+        let outcome = wrapped_outcome(lent.outcome, lent.detail);
         let pushed = batch.push(&wrapped_row(&lent.row), lent.verdict == 1, outcome);
         pushed.expect("a row within capacity");
     }
     batch
+}
+
+pub fn wrapped_outcome(outcome: u64, detail: u64) -> Outcome {
+    rejected(outcome, detail).map_or(Ok(()), Err)
 }
 
 /// What the wrapper has for outcomes 1 to 4.

@@ -69,7 +69,10 @@ fn chunks(rng: &mut Rng, pair: &mut Pair, peer: &Entries) -> Check {
     };
     if rng.once_in(4) {
         let clock = cuwelfra::VectorClock::from_area(area);
-        let answer = pair.wrapped(|store| store.chunks(&clock, most, bytes));
+        let answer = pair.wrapped(|store| {
+            let delta = store.delta(&clock)?;
+            delta.chunk_lens(most, bytes)
+        });
         let wanted = wanted.iter().map(|rows| *rows as usize).collect();
         agree(&answer, &Ok(wanted), || inputs(pair))?;
     } else {

@@ -49,7 +49,10 @@ fn delta(rng: &mut Rng, pair: &mut Pair, peer: &Entries) -> Check {
     let inputs = |pair: &Pair| format!("calculate_delta for {peer:?} of {}", pair.shown());
     if rng.once_in(4) {
         let clock = cuwelfra::VectorClock::from_area(area);
-        let answer = pair.wrapped(|store| store.delta(&clock));
+        let answer = pair.wrapped(|store| {
+            let delta = store.delta(&clock);
+            delta.map(|delta| delta.positions().to_vec())
+        });
         let wanted = wanted.iter().map(|i| *i as usize).collect();
         agree(&answer, &Ok(wanted), || inputs(pair))?;
     } else {

@@ -30,9 +30,9 @@ pub fn run(rng: &mut Rng) -> Outcome {
             told.first = 0;
         }
         let inputs = || format!("{told:?}");
-        let refusal = Refusal::from_told(told);
+        let refusal = Refusal::check(told).err();
         agree(&refusal.map(Refusal::told), &Some(told), inputs)?;
-        agree(&Refusal::check(told).err(), &refusal, inputs)?;
+        agree(&refusal.map(Refusal::number), &Some(number), inputs)?;
         let text = refusal.map(|r| r.to_string()).unwrap_or_default();
         for value in [told.first, told.second] {
             let shown = value == 0 || text.contains(&value.to_string());
@@ -40,12 +40,13 @@ pub fn run(rng: &mut Rng) -> Outcome {
         }
         cases += 1;
     }
-    for number in [0, 26, u64::MAX] {
+    for number in [26, u64::MAX] {
         let told = Told {
             number,
             ..Told::default()
         };
-        agree(&Refusal::from_told(told), &None, || format!("{told:?}"))?;
+        let unknown = Err(Refusal::UnknownAnswer(told));
+        agree(&Refusal::check(told), &unknown, || format!("{told:?}"))?;
         cases += 1;
     }
     agree(&Refusal::check(Told::default()), &Ok(()), String::new)?;

@@ -10,6 +10,7 @@ use crate::rng::Rng;
 use crate::rows::{Held, Row, SLOT};
 use crate::support::{agree, pattern, refused, same_write, Check, Outcome};
 use crate::worlds::large_row;
+use crate::wrapped::wrapped_outcome;
 
 const ROWS: usize = 200_000;
 /// Rows that are written into and read from every length.
@@ -128,8 +129,7 @@ fn read_back(rng: &mut Rng, row: &Row) -> Check {
     let wanted = HeldRow {
         row: wrapped_row(row),
         arrived_ms: 0,
-        outcome: held.outcome as u8,
-        detail: held.detail as u8,
+        outcome: wrapped_outcome(held.outcome, held.detail),
     };
     let inputs = || format!("the wrapper's read at {at} of {batch:02x?}");
     let slot = WrappedSlot::held(&wanted).map(|slot| *slot.area());
