@@ -244,7 +244,8 @@ impl VectorClock {
     pub fn entries(&self) -> Result<Vec<(ActorId, u64)>, Refusal> {
         // Any question to the clock tests its rules.
         self.get(ActorId(0))?;
-        Ok(pairs(&self.0, 8, size(word(&self.0, 0))).collect())
+        let count = size(word(&self.0, 0)).min(MAX_AUTHORS);
+        Ok(pairs(&self.0, 8, count).collect())
     }
 
     /// Raises the author's number to at least `seq`; 1, 18.

@@ -120,3 +120,21 @@ impl fmt::Display for ActorId {
         self.0.fmt(f)
     }
 }
+
+#[cfg(test)]
+mod tests {
+    use super::*;
+
+    /// Compiles only where all may be copied and go to other threads.
+    #[test]
+    fn all_may_go_to_other_threads() {
+        fn natural<T: Clone + Send + Sync + 'static>() {}
+        natural::<Store>();
+        natural::<Batch>();
+        natural::<Report>();
+        natural::<Delta<'static>>();
+        natural::<(Refusal, Limits, HybridClock, VectorClock)>();
+        natural::<(Peer, Slot, Row)>();
+        natural::<Reader<'static>>();
+    }
+}

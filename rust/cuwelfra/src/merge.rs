@@ -1,10 +1,10 @@
-//! The batch call: its settings and what it reports; and the floor.
+//! The batch call: its settings and what it reports.
 
 use cuwelfra_sys as sys;
 
 use crate::batch::outcome_of;
 use crate::words::{misfit, size, word};
-use crate::{ActorId, ApplyError, Refusal, Store, Timestamp, MAX_BATCH, MAX_HELD};
+use crate::{ActorId, ApplyError, Refusal, Store, MAX_BATCH, MAX_HELD};
 
 /// Bytes of output for each logged row.
 pub const LINE_BYTES: usize = 18;
@@ -170,23 +170,6 @@ impl Store {
         let held = size(word(self.areas().2, 8));
         let batch = size(sys::get_varint(batch, 0).value);
         held.min(MAX_HELD) + batch.min(MAX_BATCH)
-    }
-
-    /// Raises the floor: rows with stamps at or below it are logged as stale. It never lowers it.
-    ///
-    /// ```
-    /// use cuwelfra::{ActorId, Refusal, Store, Timestamp};
-    ///
-    /// let mut store = Store::with_capacity(16)?;
-    /// store.set_floor(&Timestamp::new(20, 0, ActorId(1)))?;
-    /// store.set_floor(&Timestamp::new(10, 0, ActorId(1)))?;
-    /// assert_eq!(store.floor(), Ok(Some(Timestamp::new(20, 0, ActorId(1)))));
-    /// # Ok::<(), Refusal>(())
-    /// ```
-    pub fn set_floor(&mut self, stamp: &Timestamp) -> Result<(), Refusal> {
-        let (areas, _) = self.lent_mut(0);
-        let (log, held) = (areas.log, areas.held);
-        Refusal::check(sys::set_floor(log, held, areas.head, stamp.parts()))
     }
 }
 

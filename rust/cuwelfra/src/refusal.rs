@@ -260,9 +260,10 @@ impl Refusal {
     /// ```
     /// use cuwelfra::Refusal;
     ///
-    /// let full = Refusal::explain(17).expect("a number from 1 to 25");
-    /// assert_eq!(full.word, "log full");
-    /// assert!(full.advice.starts_with("Compact the log"));
+    /// for explained in (1..=25).filter_map(Refusal::explain) {
+    ///     println!("{} {}: {}", explained.number, explained.word, explained.meaning);
+    /// }
+    /// assert_eq!(Refusal::explain(17).map(|full| full.word), Some("log full"));
     /// assert_eq!(Refusal::explain(26), None);
     /// ```
     pub fn explain(number: u64) -> Option<&'static Explained> {

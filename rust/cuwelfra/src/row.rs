@@ -32,14 +32,16 @@ const SIGNATURE: usize = 640;
 /// An operation with its stamp, author, sequence and dependencies.
 ///
 /// ```
-/// use cuwelfra::{ActorId, Row, Timestamp};
+/// use cuwelfra::{ActorId, Refusal, Row, Timestamp};
 ///
 /// // Author 1's third row, which needs author 2's first.
 /// let row = Row::new(Timestamp::new(1_030, 0, ActorId(1)), 3, "Kette = chain").needs(ActorId(2), 1);
 /// assert_eq!(row.actor, ActorId(1));
-/// // What its author signs: five numbers, the dependencies and the payload.
-/// let signing = row.signing_bytes().expect("a row within capacity");
-/// assert_eq!(signing[..5], [0x86, 0x08, 0, 1, 1]);
+/// // What its author signs: 1,030 as a varint, counter, authors, sequence, one dependency and the payload.
+/// let bytes = row.signing_bytes()?;
+/// assert_eq!(bytes[..9], [0x86, 0x08, 0, 1, 1, 3, 1, 2, 1]);
+/// assert_eq!(bytes[9..], *b"\x0dKette = chain");
+/// # Ok::<(), Refusal>(())
 /// ```
 #[derive(Clone, Debug, PartialEq, Eq, Hash)]
 pub struct Row {

@@ -154,7 +154,7 @@ impl Store {
         }
     }
 
-    /// The areas, and scratch for so many rows.
+    /// The areas, and scratch for so many rows. It grows and is lent again, so that a call clears no more than it uses.
     pub(crate) fn lent_mut(&mut self, rows: usize) -> (sys::AreasMut<'_>, &mut [u8]) {
         let needed = rows * SLOT_BYTES;
         if self.scratch.len() < needed {
@@ -176,12 +176,12 @@ impl Store {
 
     /// Makes the store anew: these logged rows, inserted one after the other, above this compacted clock; 1, 17, 18.
     pub fn from_parts(&mut self, rows: &[Slot], compacted: &VectorClock) -> Result<(), Refusal> {
-        let parts: Vec<u8> = rows.iter().flat_map(|slot| *slot.area()).collect();
+        let parts: Vec<[u8; SLOT_BYTES]> = rows.iter().map(|slot| *slot.area()).collect();
         Refusal::check(sys::from_parts(
             &mut self.log,
             &mut self.held,
             &mut self.head,
-            &parts,
+            parts.as_flattened(),
             rows.len(),
             compacted.area(),
         ))
@@ -241,6 +241,22 @@ impl Store {
         stamp(sys::floor(self.lent()))
     }
 
+    /// Raises the floor: rows with stamps at or below it are logged as stale. It never lowers it.
+    ///
+    /// ```
+    /// use cuwelfra::{ActorId, Refusal, Store, Timestamp};
+    ///
+    /// let mut store = Store::with_capacity(16)?;
+    /// store.set_floor(&Timestamp::new(20, 0, ActorId(1)))?;
+    /// store.set_floor(&Timestamp::new(10, 0, ActorId(1)))?;
+    /// assert_eq!(store.floor(), Ok(Some(Timestamp::new(20, 0, ActorId(1)))));
+    /// # Ok::<(), Refusal>(())
+    /// ```
+    pub fn set_floor(&mut self, stamp: &Timestamp) -> Result<(), Refusal> {
+        let stamp = stamp.parts();
+        Refusal::check(sys::set_floor(&self.log, &self.held, &mut self.head, stamp))
+    }
+
     /// The latest stamp seen of an author.
     pub fn watermark(&self, actor: ActorId) -> Result<Option<Timestamp>, Refusal> {
         stamp(sys::watermark(self.lent(), actor.0))
@@ -267,6 +283,18 @@ impl Store {
     }
 
     /// Looks a row up among the logged, first place first, then the held.
+    ///
+    /// ```
+    /// use cuwelfra::{ActorId, Place, Refusal, Row, Slot, Store, Timestamp};
+    ///
+    /// let mut store = Store::with_capacity(16)?;
+    /// let row = Row::new(Timestamp::new(10, 0, ActorId(1)), 1, "Kette = chain");
+    /// store.insert(&Slot::logged(&row)?)?;
+    /// let found = store.lookup(ActorId(1), 1)?.map(|found| (found.place, found.payload));
+    /// assert_eq!(found, Some((Place::Logged(0), &b"Kette = chain"[..])));
+    /// assert_eq!(store.lookup(ActorId(1), 2), Ok(None));
+    /// # Ok::<(), Refusal>(())
+    /// ```
     pub fn lookup(&self, actor: ActorId, seq: u64) -> Result<Option<Found<'_>>, Refusal> {
         let told = sys::lookup(self.lent(), actor.0, seq);
         Refusal::check(told.told)?;
@@ -292,12 +320,34 @@ impl Store {
     }
 
     /// Removes the rows whose stamps are at or below the cutoff and gives how many.
+    ///
+    /// ```
+    /// use cuwelfra::{ActorId, Refusal, Row, Slot, Store, Timestamp, VectorClock};
+    ///
+    /// let mut store = Store::with_capacity(16)?;
+    /// for seq in 1..=3 {
+    ///     let row = Row::new(Timestamp::new(10 * seq, 0, ActorId(1)), seq, "Kette = chain");
+    ///     store.insert(&Slot::logged(&row)?)?;
+    /// }
+    /// // All peers have author 1's first two rows.
+    /// let mut frontier = VectorClock::new();
+    /// frontier.observe(ActorId(1), 2)?;
+    /// let cutoff = store.cutoff(&frontier)?;
+    /// assert_eq!(cutoff, Some(Timestamp::new(20, 0, ActorId(1))));
+    /// if let Some(cutoff) = cutoff {
+    ///     assert_eq!(store.compact(&cutoff), Ok(2));
+    /// }
+    /// assert_eq!(store.log_len(), Ok(1));
+    /// // A peer that has nothing cannot be served from this log any more.
+    /// assert_eq!(store.can_serve(&VectorClock::new()), Ok(false));
+    /// # Ok::<(), Refusal>(())
+    /// ```
     pub fn compact(&mut self, cutoff: &Timestamp) -> Result<usize, Refusal> {
         let removed = sys::compact(&mut self.log, &self.held, &mut self.head, cutoff.parts());
         number(removed).map(size)
     }
 
-    /// The latest stamp that is safe to compact to.
+    /// The latest stamp that is safe to compact to, where all peers have what `frontier` says.
     pub fn cutoff(&self, frontier: &VectorClock) -> Result<Option<Timestamp>, Refusal> {
         stamp(sys::cutoff(self.lent(), frontier.area()))
     }
