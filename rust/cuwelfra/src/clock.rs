@@ -306,3 +306,50 @@ pub(crate) fn number(answer: sys::ClockNumber) -> Result<u64, Refusal> {
     Refusal::check(answer.told)?;
     Ok(answer.number)
 }
+
+#[cfg(test)]
+mod tests {
+    use super::*;
+    use crate::words::set_word;
+
+    /// A clock area whose first words are these.
+    fn area(words: &[u64]) -> VectorClock {
+        let mut area = [0; CLOCK_BYTES];
+        for (i, value) in words.iter().enumerate() {
+            set_word(&mut area, 8 * i, *value);
+        }
+        VectorClock::from_area(area)
+    }
+
+    #[test]
+    fn entries_are_content() {
+        let clock = area(&[2, 1, 0, 5, 7]);
+        let entries = vec![(ActorId(1), 0), (ActorId(5), 7)];
+        assert_eq!(clock.entries(), Ok(entries));
+        assert_eq!(format!("{clock:?}"), "{1: 0, 5: 7}");
+        let zero = area(&[1, 1, 0]);
+        assert_eq!(zero.compare(&VectorClock::new()), Ok(CausalOrder::Equal));
+        assert_ne!(zero, VectorClock::new());
+    }
+
+    #[test]
+    fn areas_that_break_the_rules_have_no_entries() {
+        for words in [&[33][..], &[u64::MAX], &[0, 1], &[2, 5, 7, 5, 7]] {
+            let clock = area(words);
+            assert_eq!(clock.entries(), Err(Refusal::UnsoundStore));
+            assert!(format!("{clock:?}").starts_with("VectorClock(["));
+        }
+    }
+
+    #[test]
+    fn a_resumed_clock_goes_on_above_what_it_issued() -> Result<(), Refusal> {
+        let mut clock = HybridClock::new(ActorId(4));
+        clock.now(10)?;
+        let last = clock.now(10)?;
+        let (wall, counter) = clock.last();
+        let mut resumed = HybridClock::resume(ActorId(4), wall, counter);
+        assert_eq!(resumed, clock);
+        assert!(resumed.now(9)? > last);
+        Ok(())
+    }
+}

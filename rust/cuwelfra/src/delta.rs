@@ -109,3 +109,65 @@ impl Delta<'_> {
         rows.collect()
     }
 }
+
+#[cfg(test)]
+mod tests {
+    use super::*;
+    use crate::{ActorId, Slot, Timestamp};
+
+    /// Two rows of author 1 and two of author 2, in turns, the last of them large.
+    fn store() -> Result<Store, Refusal> {
+        let mut store = Store::with_capacity(5)?;
+        for (i, len) in (0..).zip([1, 1, 1, 200]) {
+            let stamp = Timestamp::new(i, 0, ActorId(1 + i % 2));
+            let row = Row::new(stamp, 1 + i / 2, vec![7; len]);
+            store.insert(&Slot::logged(&row)?)?;
+        }
+        Ok(store)
+    }
+
+    #[test]
+    fn rows_stand_at_their_positions() -> Result<(), Refusal> {
+        let store = store()?;
+        let mut peer = VectorClock::new();
+        peer.observe(ActorId(1), 1)?;
+        let delta = store.delta(&peer)?;
+        assert_eq!(delta.positions(), [1, 2, 3]);
+        assert_eq!(delta.rows()?, store.ops()?[1..]);
+        assert_eq!(delta.len(), 3);
+        assert!(store.delta(&store.clock()?)?.is_empty());
+        Ok(())
+    }
+
+    #[test]
+    fn chunks_in_order_are_the_delta() -> Result<(), Refusal> {
+        let store = store()?;
+        let delta = store.delta(&VectorClock::new())?;
+        // A small row counts for 24 bytes.
+        let cases = [
+            (0, 1_000, vec![1, 1, 1, 1]),
+            (2, 1_000, vec![2, 2]),
+            (9, 48, vec![2, 1, 1]),
+            (9, 1_000, vec![4]),
+        ];
+        for (max_rows, max_bytes, lens) in cases {
+            let chunks = delta.chunks(max_rows, max_bytes)?;
+            let found: Vec<usize> = chunks.iter().map(Vec::len).collect();
+            assert_eq!(found, lens, "{max_rows} rows, {max_bytes} bytes");
+            assert_eq!(delta.chunk_lens(max_rows, max_bytes), Ok(lens));
+            assert_eq!(chunks.concat(), delta.rows()?);
+        }
+        Ok(())
+    }
+
+    #[test]
+    fn a_damaged_clock_is_refused() -> Result<(), Refusal> {
+        let mut area = *VectorClock::new().area();
+        area[7] = 33;
+        let delta = store()?
+            .delta(&VectorClock::from_area(area))
+            .map(|delta| delta.len());
+        assert_eq!(delta, Err(Refusal::UnsoundStore));
+        Ok(())
+    }
+}

@@ -34,8 +34,8 @@ pub(crate) const EXPLAINED: [Explained; 25] = [
         number: 1,
         word: "unsound store",
         values: &[],
-        meaning: "A lent area breaks a rule of document 01. In a store: a row that does not read, log stamps that fall, \
-                  a clock or watermark that does not go with the rows, held rows out of order, an unused slot that is \
+        meaning: "A lent area breaks a rule of document 01. In a store: a row that does not read, log stamps that fall, a \
+                  clock or watermark that does not go with the rows, held rows out of order, an unused slot that is \
                   not zero. A clock, a peer or a slot lent alone can break its rules too.",
         advice: "Something other than these calls wrote the area, or it was not loaded whole: load the last good copy. \
                  No call repairs an area, and this one changed nothing.",
@@ -79,7 +79,7 @@ pub(crate) const EXPLAINED: [Explained; 25] = [
         word: "foreign stamp",
         values: ROW,
         meaning: "A row of the batch bears a stamp that another author issued.",
-        advice: "Offer the batch without this row; its author has to stamp it with a clock of its own and sign it again.",
+        advice: "Offer the batch without this row; its author has to stamp it with its own clock and sign it again.",
     },
     Explained {
         number: 7,
@@ -164,8 +164,8 @@ pub(crate) const EXPLAINED: [Explained; 25] = [
         word: "log full",
         values: &[],
         meaning: "The log area has no slot left for the rows that would be logged.",
-        advice: "Compact the log (`cutoff`, then `compact`), or lengthen its area with zeros, to at most 1,024 slots of \
-                 704 bytes.",
+        advice: "Compact the log (`cutoff`, then `compact`), or lengthen its area with zeros, to at most 1,024 slots \
+                 of 704 bytes.",
     },
     Explained {
         number: 18,

@@ -1,8 +1,9 @@
-//! The proved glossary log, for Rust programs: a store of rows that authors at many desks write, and the batch call that
-//! merges what other desks send. Every function behind these calls is proved; this crate is thin over them and has no
-//! `unsafe` of its own.
+//! The proved glossary log, for Rust programs: a store of rows that authors at many desks write, and the batch call
+//! that merges what other desks send. Every function behind these calls is proved; this crate is thin over them and has
+//! no `unsafe` of its own.
 //!
-//! - [`Store`] keeps the rows; [`Batch`] brings rows to it, [`Limits`] the settings, [`Report`] tells what became of them.
+//! - [`Store`] keeps the rows; [`Batch`] brings rows to it, [`Limits`] the settings; [`Report`] tells what became of
+//!   them.
 //! - [`Delta`] is what a peer lacks, [`Peer`] what is known about one.
 //! - [`HybridClock`] stamps an author's rows, [`VectorClock`] says how far each author's rows are known.
 //! - [`Reader`], [`Writer`] and [`Envelope`] serve the frames between peers.
@@ -11,8 +12,8 @@
 //! nothing panics. The numbers behind a call's description, as in "2, 1", are those that it may be refused with.
 //! "Document 01" in these pages is the project's scope, which fixes them.
 //!
-//! In the repository docs/GUIDE.md goes through all of this from the start, and docs/LAYOUT.md says what each byte of an
-//! area is.
+//! In the repository docs/GUIDE.md goes through all of this from the start, and docs/LAYOUT.md says what each byte of
+//! an area is.
 //!
 //! # A server's loop
 //!

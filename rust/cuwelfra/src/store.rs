@@ -21,8 +21,8 @@ pub const HEAD_BYTES: usize = 2_120;
 
 /// A store in three areas: logged rows, held rows, and the head with counts, floor, clocks and watermarks.
 ///
-/// Every call refuses areas that break the rules, with 1, and short ones, with 2. A refusal leaves the store. Stores are
-/// equal when their areas are.
+/// Every call refuses areas that break the rules, with 1, and short ones, with 2. A refusal leaves the store. Stores
+/// are equal when their areas are.
 ///
 /// ```
 /// use cuwelfra::{ActorId, Batch, Limits, Refusal, Row, Store, Timestamp};

@@ -40,3 +40,29 @@ pub(crate) fn part(bytes: &[u8], start: usize, len: u64) -> Result<&[u8], Refusa
 pub(crate) fn misfit() -> Refusal {
     Refusal::UnknownAnswer(Told::default())
 }
+
+#[cfg(test)]
+mod tests {
+    use super::*;
+
+    #[test]
+    fn words_past_the_end_are_zero_and_are_not_written() {
+        let mut area = [0; 9];
+        set_word(&mut area, 1, 0x0102);
+        assert_eq!(area, [0, 0, 0, 0, 0, 0, 0, 1, 2]);
+        assert_eq!(
+            (word(&area, 1), word(&area, 2), word(&area, 10)),
+            (0x0102, 0, 0)
+        );
+        set_word(&mut area, 2, u64::MAX);
+        assert_eq!(word(&area, 1), 0x0102);
+    }
+
+    #[test]
+    fn a_part_outside_what_was_lent_is_no_answer() {
+        assert_eq!(part(b"abc", 1, 2), Ok(&b"bc"[..]));
+        for (start, len) in [(1, 3), (4, 0), (usize::MAX, u64::MAX)] {
+            assert_eq!(part(b"abc", start, len), Err(misfit()));
+        }
+    }
+}
