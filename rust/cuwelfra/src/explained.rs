@@ -34,11 +34,11 @@ pub(crate) const EXPLAINED: [Explained; 25] = [
         number: 1,
         word: "unsound store",
         values: &[],
-        meaning: "A lent area breaks a rule of document 01. In a store: a row that does not read, log stamps that fall, a \
-                  clock or watermark that does not go with the rows, held rows out of order, an unused slot that is \
-                  not zero. A clock, a peer or a slot lent alone can break its rules too.",
+        meaning: "A lent area breaks a rule of document 01; in a store, a row that does not read, log stamps that \
+                  fall, a clock or watermark that does not go with the rows, held rows out of order, an unused slot \
+                  that is not zero. A clock, a peer or a slot lent alone can break its rules too.",
         advice: "Something other than these calls wrote the area, or it was not loaded whole: load the last good copy. \
-                 No call repairs an area, and this one changed nothing.",
+                 A store can also be made anew from its logged rows (`from_parts`).",
     },
     Explained {
         number: 2,

@@ -21,8 +21,8 @@ pub const HEAD_BYTES: usize = 2_120;
 
 /// A store in three areas: logged rows, held rows, and the head with counts, floor, clocks and watermarks.
 ///
-/// Every call refuses areas that break the rules, with 1, and short ones, with 2. A refusal leaves the store. Stores
-/// are equal when their areas are.
+/// Every call refuses short areas, with 2, and all but [`Store::from_parts`] those that break the rules, with 1. A
+/// refusal leaves the store. Stores are equal when their areas are.
 ///
 /// ```
 /// use cuwelfra::{ActorId, Batch, Limits, Refusal, Row, Store, Timestamp};
@@ -174,7 +174,8 @@ impl Store {
         (self.log.len() / SLOT_BYTES).min(MAX_LOGGED)
     }
 
-    /// Makes the store anew: these logged rows, inserted one after the other, above this compacted clock; 1, 17, 18.
+    /// Makes the store anew, whatever it held: these logged rows, inserted one after the other, above this compacted
+    /// clock, with no held row and no floor; 1, 17, 18.
     pub fn from_parts(&mut self, rows: &[Slot], compacted: &VectorClock) -> Result<(), Refusal> {
         let parts: Vec<[u8; SLOT_BYTES]> = rows.iter().map(|slot| *slot.area()).collect();
         Refusal::check(sys::from_parts(
