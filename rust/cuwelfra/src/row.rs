@@ -221,16 +221,15 @@ impl Slot {
     }
 }
 
-/// The row in a slot; 1 where a number does not fit. That the rest is zero is not tested.
+/// The row in a slot; 1 where a number has no place in a row. That the slot is that row's is not tested.
 pub(crate) fn row_in(area: &[u8; SLOT_BYTES]) -> Result<HeldRow, Refusal> {
     read(area).ok_or(Refusal::UnsoundStore)
 }
 
 fn read(area: &[u8; SLOT_BYTES]) -> Option<HeldRow> {
-    let sized = |at: usize, len_at: usize, max: usize| {
-        let len = word(area, len_at);
-        let bytes = part(area, at, len).ok()?;
-        (size(len) <= max).then(|| bytes.to_vec())
+    let bytes = |at: usize, len_at: usize| {
+        let bytes = part(area, at, word(area, len_at)).ok()?;
+        Some(bytes.to_vec())
     };
     let deps = size(word(area, DEPS_LEN));
     let timestamp = Timestamp::new(
@@ -243,8 +242,8 @@ fn read(area: &[u8; SLOT_BYTES]) -> Option<HeldRow> {
         actor: ActorId(word(area, 24)),
         seq: word(area, 32),
         deps: (deps <= MAX_DEPS).then(|| pairs(area, DEPS, deps).collect())?,
-        payload: sized(PAYLOAD, PAYLOAD_LEN, MAX_PAYLOAD)?,
-        signature: sized(SIGNATURE, SIGNATURE_LEN, MAX_SIGNATURE)?,
+        payload: bytes(PAYLOAD, PAYLOAD_LEN)?,
+        signature: bytes(SIGNATURE, SIGNATURE_LEN)?,
     };
     let outcome = u8::try_from(word(area, OUTCOME)).ok()?;
     let detail = u8::try_from(word(area, DETAIL)).ok()?;

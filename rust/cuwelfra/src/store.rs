@@ -380,16 +380,33 @@ mod tests {
     use super::*;
     use crate::{Batch, Limits};
 
-    /// A store with a row logged and one that waits.
-    fn store() -> Result<Store, Refusal> {
+    /// Rows of author 1 with these sequences.
+    fn batch(seqs: impl IntoIterator<Item = u64>) -> Result<Batch, Refusal> {
         let mut batch = Batch::new();
-        for seq in [1, 3] {
+        for seq in seqs {
             let row = Row::new(Timestamp::new(10 * seq, 0, ActorId(1)), seq, "Kette");
             batch.push(&row, true, Ok(()))?;
         }
+        Ok(batch)
+    }
+
+    /// A store with a row logged and one that waits.
+    fn store() -> Result<Store, Refusal> {
         let mut store = Store::with_capacity(4)?;
-        store.apply_remote_ops(&Limits::default(), 100, batch.bytes())?;
+        store.apply_remote_ops(&Limits::default(), 100, batch([1, 3])?.bytes())?;
         Ok(store)
+    }
+
+    #[test]
+    fn the_largest_call_has_its_scratch() -> Result<(), Refusal> {
+        let batch = batch(2..66)?;
+        let mut store = Store::with_capacity(1)?;
+        for (duplicates, rows) in [(0, 64), (64, 128)] {
+            let report = store.apply_remote_ops(&Limits::default(), 100, batch.bytes())?;
+            assert_eq!((report.duplicates, report.held), (duplicates, 64));
+            assert_eq!(store.scratch.len(), rows * SLOT_BYTES);
+        }
+        Ok(())
     }
 
     #[test]
