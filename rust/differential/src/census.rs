@@ -4,7 +4,7 @@ use std::ops::RangeInclusive;
 
 use cuwelfra_sys::MergeTold;
 
-use crate::support::Outcome;
+use crate::support::{note, Outcome};
 
 /// Refusals that a batch call has.
 const REFUSALS: usize = 18;
@@ -61,12 +61,12 @@ impl Census {
             .clone()
             .map(|(name, n)| format!("{name} {n}"))
             .collect();
-        println!(
+        note(&format!(
             "{suite}: accepted {}, of which with rows {}; refused by number {}",
             self.accepted,
             listed.join(", "),
             refused.join(", ")
-        );
+        ));
         let lacking = moved.filter(|(name, n)| *n == 0 && moves.contains(name));
         if self.accepted == 0 || self.refused[refusals].contains(&0) || lacking.count() > 0 {
             return Err("a refusal or a move never occurred".into());

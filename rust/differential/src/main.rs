@@ -33,6 +33,7 @@ mod reading;
 mod record;
 mod rng;
 mod rows;
+mod runner;
 mod store;
 mod strange;
 mod suites;
@@ -43,7 +44,6 @@ mod wrapped;
 
 use std::process::ExitCode;
 
-use rng::Rng;
 use suites::{Suite, SUITES};
 
 fn main() -> ExitCode {
@@ -63,23 +63,20 @@ fn main() -> ExitCode {
              the repository has it. Suites that need it are skipped."
         );
     }
-    let seed = rng::seed();
-    let mut passed = 0;
-    for suite in SUITES.iter().filter(|suite| chosen(suite, &names)) {
-        match run(suite, seed) {
-            Some(true) => passed += 1,
-            Some(false) => return ExitCode::FAILURE,
-            None => {}
+    let suites = SUITES.iter().filter(|suite| chosen(suite, &names));
+    match runner::run(suites.collect(), rng::seed()) {
+        Some(passed) => {
+            println!("differential: {passed} suites passed");
+            ExitCode::SUCCESS
         }
+        None => ExitCode::FAILURE,
     }
-    println!("differential: {passed} suites passed");
-    ExitCode::SUCCESS
 }
 
 /// Writes the sample.
 #[cfg(oracle_present)]
 fn record(file: &str) -> ExitCode {
-    match record::record(&mut Rng::for_suite(rng::seed(), "record"), file) {
+    match record::record(&mut rng::Rng::for_suite(rng::seed(), "record"), file) {
         Ok((records, bytes)) => {
             println!("{file}: {records} records, {bytes} bytes");
             ExitCode::SUCCESS
@@ -95,25 +92,6 @@ fn record(file: &str) -> ExitCode {
 fn record(_: &str) -> ExitCode {
     eprintln!("The sample is made of the Rust original's answers, and the original is absent.");
     ExitCode::FAILURE
-}
-
-/// Whether a suite passed, `None` where it is skipped.
-fn run(suite: &Suite, seed: u64) -> Option<bool> {
-    let name = suite.name;
-    let Some(body) = suite.run else {
-        println!("{name}: skipped, it needs the Rust original");
-        return None;
-    };
-    match body(&mut Rng::for_suite(seed, name)) {
-        Ok(cases) => {
-            println!("{name}: {cases} cases, ok");
-            Some(true)
-        }
-        Err(difference) => {
-            println!("{name}: DISAGREES (seed {seed})\n{difference}");
-            Some(false)
-        }
-    }
 }
 
 fn chosen(suite: &Suite, names: &[String]) -> bool {

@@ -1,5 +1,6 @@
 //! What the suites share.
 
+use std::cell::RefCell;
 use std::fmt::Debug;
 
 use cuwelfra_sys::{Told, Written};
@@ -8,6 +9,23 @@ use cuwelfra_sys::{Told, Written};
 pub type Outcome = Result<u64, String>;
 /// Agreement, or the disagreement with its inputs.
 pub type Check = Result<(), String>;
+
+thread_local! {
+    static NOTES: RefCell<String> = const { RefCell::new(String::new()) };
+}
+
+/// A line that is printed with the suite's last one.
+pub fn note(line: &str) {
+    NOTES.with_borrow_mut(|notes| {
+        notes.push_str(line);
+        notes.push('\n');
+    });
+}
+
+/// The lines that this thread noted since it was last asked.
+pub fn notes() -> String {
+    NOTES.take()
+}
 
 /// Requires that the port's answer is the expected one. `inputs` is asked for only where it is not.
 pub fn agree<T: PartialEq + Debug>(

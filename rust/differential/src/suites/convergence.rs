@@ -14,7 +14,7 @@ use crate::model::Lent;
 use crate::rng::Rng;
 use crate::rows::{Row, Stamp};
 use crate::store::{self, Areas};
-use crate::support::{agree, Check, Outcome};
+use crate::support::{agree, note, Check, Outcome};
 
 const PAIRS: u64 = 100_000;
 
@@ -38,14 +38,14 @@ pub fn run(rng: &mut Rng) -> Outcome {
     for _ in 0..PAIRS {
         pair(rng, &mut kinds)?;
     }
-    println!(
+    note(&format!(
         "convergence: fair pairs with equal offers {}, with more offers {}, others {}, with refused calls {}",
         kinds.equal, kinds.more, kinds.others, kinds.refused
-    );
-    println!(
+    ));
+    note(&format!(
         "convergence: pairs with two contents {}, of which fail {}; with rows that expire {}, of which fail {}",
         kinds.conflicting, kinds.conflicting_fail, kinds.expiring, kinds.expiring_fail
-    );
+    ));
     let counts = [
         kinds.equal,
         kinds.more,

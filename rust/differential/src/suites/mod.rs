@@ -93,6 +93,9 @@ macro_rules! alone {
     };
 }
 
+/// The suites that run longest, in falling order.
+pub const LONGEST: [&str; 4] = ["call-lists", "convergence", "batch-bytes", "damaged-stores"];
+
 pub const SUITES: &[Suite] = &[
     alone!("refusals", refusals::run),
     beside_original!("varint-short", varint_short::run),

@@ -1,0 +1,250 @@
+//! A batch call on a store of the port and on the original's merger, from the same start.
+
+use cuwelfra::{
+    Batch, MergeLimits, MergeReport, Refusal, Row, Slot, Store, VectorClock, SLOT_BYTES,
+};
+use cuwelfra_sys as sys;
+use oracle::clock::Timestamp;
+use oracle::error::{ApplyError, SnapshotError};
+use oracle::log::{ReplicatedLog, StampedOperation};
+use oracle::merge::{AllowAll, Merger};
+use oracle::stubs::crypto::Verifier;
+use oracle::stubs::{ActorId, CrdtCompatible, State, UirNode};
+
+use crate::rows::{operation, operations, NOW};
+use crate::timing::{time, Subject};
+
+/// Rows that a store was given before the call.
+#[derive(Clone, Default)]
+pub struct Before {
+    pub logged: Vec<Row>,
+    /// Waiting, at most 64.
+    pub held: Vec<Row>,
+}
+
+/// What a call must come to.
+#[derive(Clone, Copy, Debug, Default, PartialEq, Eq)]
+pub struct Counts {
+    pub applied: usize,
+    pub duplicates: usize,
+    pub held: usize,
+}
+
+pub struct Case {
+    rows: Vec<Row>,
+    batch: Batch,
+    store: Store,
+    operations: Vec<StampedOperation>,
+    log: ReplicatedLog,
+    merger: Merger,
+}
+
+impl Case {
+    /// Both sides before the call, the log area with so many slots. Fails where they disagree before or after it, or
+    /// the call does not come to these counts.
+    pub fn new(
+        before: &Before,
+        slots: usize,
+        rows: Vec<Row>,
+        counts: Counts,
+    ) -> Result<Self, String> {
+        let mut case = Self {
+            batch: bytes(&before.held).map_err(shown)?,
+            store: store_of(&before.logged, slots).map_err(shown)?,
+            operations: operations(&before.held),
+            log: ReplicatedLog::from_parts(operations(&before.logged), Default::default()),
+            merger: Merger::default(),
+            rows: Vec::new(),
+        };
+        case.step(Counts {
+            held: before.held.len(),
+            ..Counts::default()
+        })?;
+        case.batch = bytes(&rows).map_err(shown)?;
+        case.operations = operations(&rows);
+        case.rows = rows;
+        let (store, log, merger) = (case.store.clone(), case.log.clone(), case.merger.clone());
+        case.step(counts)?;
+        Ok(Self {
+            store,
+            log,
+            merger,
+            ..case
+        })
+    }
+
+    /// Makes the call on both sides and compares.
+    fn step(&mut self, counts: Counts) -> Result<(), String> {
+        let report = wrapped(&mut self.store, self.batch.bytes()).map_err(shown)?;
+        let operations = self.operations.clone();
+        let original = merge(&mut self.merger, &mut self.log, operations);
+        let original = original.map_err(shown)?;
+        let port = Counts {
+            applied: report.applied,
+            duplicates: report.duplicates,
+            held: report.held,
+        };
+        let other = Counts {
+            applied: original.applied,
+            duplicates: original.duplicates,
+            held: original.buffered,
+        };
+        if port != counts || other != counts {
+            return Err(format!(
+                "port {port:?}, original {other:?}, wanted {counts:?}"
+            ));
+        }
+        same_log(&self.store, &self.log)
+    }
+
+    /// The exported call on lent areas.
+    pub fn exported(&self) -> Subject<'_> {
+        let mut scratch = vec![0; 128 * SLOT_BYTES];
+        let mut output = vec![0; 128 * 18];
+        Box::new(move || {
+            let (mut log, mut held, mut head) = self.store.clone().into_areas();
+            let areas = sys::AreasMut {
+                log: &mut log,
+                held: &mut held,
+                head: &mut head,
+            };
+            let batch = self.batch.bytes();
+            let limits = MergeLimits::default();
+            time(|| sys::apply_remote_ops(limits, NOW, areas, batch, &mut scratch, &mut output))
+        })
+    }
+
+    /// The wrapper's call, which makes scratch, output and report.
+    pub fn wrapped(&self) -> Subject<'_> {
+        Box::new(|| {
+            let mut store = self.store.clone();
+            time(|| wrapped(&mut store, self.batch.bytes()))
+        })
+    }
+
+    /// The original's call, with rows that it may keep.
+    pub fn original(&self) -> Subject<'_> {
+        Box::new(|| {
+            let mut merger = self.merger.clone();
+            let mut log = self.log.clone();
+            let operations = self.operations.clone();
+            time(|| merge(&mut merger, &mut log, operations))
+        })
+    }
+
+    /// Making the batch's bytes.
+    pub fn building(&self) -> Subject<'_> {
+        Box::new(|| time(|| bytes(&self.rows)))
+    }
+
+    /// The store's rules alone.
+    pub fn checking(&self) -> Subject<'_> {
+        Box::new(|| time(|| self.store.check()))
+    }
+
+    /// Reading the batch's rows alone, each into a slot.
+    pub fn reading(&self) -> Subject<'_> {
+        let mut slot = [0; SLOT_BYTES];
+        Box::new(move || {
+            let batch = self.batch.bytes();
+            time(|| {
+                let mut at = 1;
+                for _ in 0..self.batch.len() {
+                    at = sys::read_op(batch, at, &mut slot).next as usize;
+                }
+                at
+            })
+        })
+    }
+}
+
+fn shown(error: impl std::fmt::Debug) -> String {
+    format!("{error:?}")
+}
+
+pub fn bytes(rows: &[Row]) -> Result<Batch, Refusal> {
+    let mut batch = Batch::new();
+    for row in rows {
+        batch.push(row, true, Ok(()))?;
+    }
+    Ok(batch)
+}
+
+pub fn slots(rows: &[Row]) -> Result<Vec<Slot>, Refusal> {
+    rows.iter().map(Slot::logged).collect()
+}
+
+/// A store of these logged rows.
+pub fn store_of(rows: &[Row], capacity: usize) -> Result<Store, Refusal> {
+    let mut store = Store::with_capacity(capacity)?;
+    store.from_parts(&slots(rows)?, &VectorClock::new())?;
+    Ok(store)
+}
+
+fn wrapped(store: &mut Store, batch: &[u8]) -> Result<MergeReport, Refusal> {
+    store.apply_remote_ops(&MergeLimits::default(), NOW, batch)
+}
+
+fn merge(
+    merger: &mut Merger,
+    log: &mut ReplicatedLog,
+    operations: Vec<StampedOperation>,
+) -> Result<oracle::merge::MergeReport, oracle::error::MergeError> {
+    merger.apply_remote_ops(&Always, &AllowAll, NOW, &mut Nothing, log, operations)
+}
+
+/// Requires that both logs have the same rows in the same order.
+pub fn same_log(store: &Store, log: &ReplicatedLog) -> Result<(), String> {
+    let (area, ..) = store.areas();
+    let rows = store.log_len().map_err(shown)?;
+    if rows != log.len() {
+        return Err(format!(
+            "{rows} rows logged, the original has {}",
+            log.len()
+        ));
+    }
+    for (slot, wanted) in area.chunks_exact(SLOT_BYTES).zip(log.ops()) {
+        let slot: [u8; SLOT_BYTES] = slot.try_into().map_err(shown)?;
+        let read = Slot::from_area(slot).row().map_err(shown)?;
+        if operation(&read.row) != *wanted {
+            return Err(format!("{read:?} logged, the original has {wanted:?}"));
+        }
+    }
+    Ok(())
+}
+
+/// A verifier that costs nothing. The batch brings the answer to the port.
+struct Always;
+
+impl Verifier for Always {
+    fn verify(&self, _: ActorId, _: &[u8], _: &[u8]) -> bool {
+        true
+    }
+}
+
+/// A state that costs nothing.
+#[derive(Clone)]
+struct Nothing;
+
+impl CrdtCompatible for Nothing {
+    fn apply(&mut self, _: &Timestamp, _: &UirNode) -> Result<(), ApplyError> {
+        Ok(())
+    }
+}
+
+/// The merger asks a state for `apply` alone.
+impl State for Nothing {
+    fn state_hash(&self) -> u64 {
+        0
+    }
+
+    fn compact(&mut self, _: &Timestamp) {}
+
+    fn encode_state(&self) -> Vec<u8> {
+        Vec::new()
+    }
+
+    fn decode_state(_: &[u8]) -> Result<Self, SnapshotError> {
+        Ok(Self)
+    }
+}

@@ -1,0 +1,200 @@
+//! Calls beside the batch call: from_parts, delta and chunks of a full log, and varints.
+
+use cuwelfra::{Row, VectorClock, CLOCK_BYTES, HEAD_BYTES, HELD_BYTES, MAX_LOGGED, SLOT_BYTES};
+use cuwelfra_sys as sys;
+use oracle::log::ReplicatedLog;
+use oracle::open::{Reader, Writer};
+use oracle::sync::{calculate_delta, chunk_ops};
+
+use crate::case::{same_log, slots, store_of};
+use crate::rows::{chained, operations};
+use crate::timing::{rounds, time, Subject};
+
+const ROUNDS: usize = 100;
+const VARINTS: usize = 1_000_000;
+/// Rounds of a million varints.
+const FEW: usize = 20;
+/// The original's own default for a chunk.
+const CHUNK_ROWS: usize = 64;
+const CHUNK_BYTES: usize = 65_536;
+
+type Done = Result<(), String>;
+
+pub fn lists() -> Done {
+    println!("| call | port | original | port ÷ original |");
+    println!("|---|---|---|---|");
+    let rows: Vec<Row> = (0..MAX_LOGGED as u64).map(chained).collect();
+    from_parts("from_parts of 1,024 rows in order", &rows)?;
+    let reversed: Vec<Row> = rows.iter().rev().cloned().collect();
+    from_parts("from_parts of 1,024 rows in reverse order", &reversed)?;
+    delta(&rows)?;
+    chunks(&rows)?;
+    varints()?;
+    println!();
+    Ok(())
+}
+
+fn line(name: &str, count: usize, port: Subject, original: Subject) {
+    let [port, original] = rounds(count, [port, original]);
+    println!(
+        "| {name} | {port} | {original} | {:.1} |",
+        port.over(&original)
+    );
+}
+
+fn refused(error: impl std::fmt::Debug) -> String {
+    format!("{error:?}")
+}
+
+fn log_of(rows: &[Row]) -> ReplicatedLog {
+    ReplicatedLog::from_parts(operations(rows), Default::default())
+}
+
+fn from_parts(name: &str, rows: &[Row]) -> Done {
+    let store = store_of(rows, MAX_LOGGED).map_err(refused)?;
+    same_log(&store, &log_of(rows))?;
+    let slots = slots(rows).map_err(refused)?;
+    let parts: Vec<u8> = slots.iter().flat_map(|slot| *slot.area()).collect();
+    let compacted = [0; CLOCK_BYTES];
+    let operations = operations(rows);
+    let mut areas = (
+        vec![0; MAX_LOGGED * SLOT_BYTES],
+        vec![0; HELD_BYTES],
+        vec![0; HEAD_BYTES],
+    );
+    let port = || {
+        let (log, held, head) = &mut areas;
+        time(|| sys::from_parts(log, held, head, &parts, rows.len(), &compacted))
+    };
+    let original = || {
+        let operations = operations.clone();
+        time(|| ReplicatedLog::from_parts(operations, Default::default()))
+    };
+    line(name, ROUNDS, Box::new(port), Box::new(original));
+    Ok(())
+}
+
+/// What a peer that has nothing lacks.
+fn delta(rows: &[Row]) -> Done {
+    let store = store_of(rows, MAX_LOGGED).map_err(refused)?;
+    let log = log_of(rows);
+    let peer = Default::default();
+    let positions = store.delta(&VectorClock::new()).map_err(refused)?;
+    let wanted = calculate_delta(&log, &peer);
+    let same = positions.iter().map(|at| &log.ops()[*at]).eq(&wanted);
+    if !same {
+        return Err("the deltas differ".into());
+    }
+    let (areas, clock) = (store.areas(), [0; CLOCK_BYTES]);
+    let mut output = vec![0; 8 * rows.len()];
+    line(
+        "delta of 1,024 rows",
+        ROUNDS,
+        Box::new(|| time(|| sys::calculate_delta(lent(areas), &clock, &mut output))),
+        Box::new(|| time(|| calculate_delta(&log, &peer))),
+    );
+    Ok(())
+}
+
+/// The chunks of that delta; the original's call takes the delta, so both are timed.
+fn chunks(rows: &[Row]) -> Done {
+    let store = store_of(rows, MAX_LOGGED).map_err(refused)?;
+    let log = log_of(rows);
+    let peer = Default::default();
+    let both = || chunk_ops(&calculate_delta(&log, &peer), CHUNK_ROWS, CHUNK_BYTES);
+    let (most, bytes) = (CHUNK_ROWS as u64, CHUNK_BYTES as u64);
+    let counts = store.chunks(&VectorClock::new(), most, bytes);
+    if !counts
+        .map_err(refused)?
+        .into_iter()
+        .eq(both().iter().map(Vec::len))
+    {
+        return Err("the chunks differ".into());
+    }
+    let (areas, clock) = (store.areas(), [0; CLOCK_BYTES]);
+    let mut output = vec![0; 8 * rows.len()];
+    line(
+        "delta and chunks of 1,024 rows",
+        ROUNDS,
+        Box::new(|| time(|| sys::chunk_ops(lent(areas), &clock, most, bytes, &mut output))),
+        Box::new(|| time(both)),
+    );
+    Ok(())
+}
+
+fn lent<'a>((log, held, head): (&'a [u8], &'a [u8], &'a [u8])) -> sys::Areas<'a> {
+    sys::Areas { log, held, head }
+}
+
+/// A million numbers of every length.
+fn varints() -> Done {
+    let numbers: Vec<u64> = numbers().collect();
+    let written = written(&numbers);
+    let mut out = vec![0; written.len()];
+    if put(&numbers, &mut out) != written.len() || out != written {
+        return Err("the varints written differ".into());
+    }
+    let sum = numbers.iter().fold(0, |sum: u64, n| sum.wrapping_add(*n));
+    if get(&written) != sum || read(&written) != sum {
+        return Err("the varints read differ".into());
+    }
+    line(
+        "1,000,000 varints written",
+        FEW,
+        Box::new(|| time(|| put(&numbers, &mut out))),
+        Box::new(|| time(|| self::written(&numbers))),
+    );
+    line(
+        "1,000,000 varints read",
+        FEW,
+        Box::new(|| time(|| get(&written))),
+        Box::new(|| time(|| read(&written))),
+    );
+    Ok(())
+}
+
+/// Splitmix64, shifted so that every length occurs as often.
+fn numbers() -> impl Iterator<Item = u64> {
+    let mut state = 0u64;
+    (0..VARINTS).map(move |i| {
+        state = state.wrapping_add(0x9e37_79b9_7f4a_7c15);
+        let mut x = state;
+        x = (x ^ (x >> 30)).wrapping_mul(0xbf58_476d_1ce4_e5b9);
+        x = (x ^ (x >> 27)).wrapping_mul(0x94d0_49bb_1331_11eb);
+        (x ^ (x >> 31)) >> (i % 10 * 7).min(63)
+    })
+}
+
+fn put(numbers: &[u64], out: &mut [u8]) -> usize {
+    let place = |at, number: &u64| sys::put_varint(out, at, *number).next as usize;
+    numbers.iter().fold(0, place)
+}
+
+fn written(numbers: &[u64]) -> Vec<u8> {
+    let mut writer = Writer::new();
+    for number in numbers {
+        writer.varint(*number);
+    }
+    writer.finish()
+}
+
+/// The sum of a million varints.
+fn get(bytes: &[u8]) -> u64 {
+    let mut at = 0;
+    let mut sum = 0u64;
+    for _ in 0..VARINTS {
+        let read = sys::get_varint(bytes, at);
+        at = read.next as usize;
+        sum = sum.wrapping_add(read.value);
+    }
+    sum
+}
+
+fn read(bytes: &[u8]) -> u64 {
+    let mut reader = Reader::new(bytes);
+    let mut sum = 0u64;
+    for _ in 0..VARINTS {
+        sum = sum.wrapping_add(reader.varint().unwrap_or(0));
+    }
+    sum
+}

@@ -1,0 +1,54 @@
+//! Times the port beside the Rust original and prints tables in Markdown: `bench`.
+//! `bench repeat SECONDS LOGGED BATCH` repeats the port's batch call alone, for a profiler.
+
+#![deny(warnings)]
+#![forbid(unsafe_code)]
+
+#[cfg(oracle_present)]
+mod case;
+#[cfg(oracle_present)]
+mod lists;
+#[cfg(oracle_present)]
+mod merging;
+#[cfg(oracle_present)]
+mod rows;
+#[cfg(oracle_present)]
+mod timing;
+
+use std::process::ExitCode;
+
+fn main() -> ExitCode {
+    let arguments: Vec<String> = std::env::args().skip(1).collect();
+    match run(&arguments) {
+        Ok(()) => ExitCode::SUCCESS,
+        Err(error) => {
+            eprintln!("bench: {error}");
+            ExitCode::FAILURE
+        }
+    }
+}
+
+#[cfg(oracle_present)]
+fn run(arguments: &[String]) -> Result<(), String> {
+    let number = |text: &String| text.parse().map_err(|_| format!("{text} is no number"));
+    match arguments {
+        [] => {
+            println!("Times in µs: median (quartiles).\n");
+            merging::workloads()?;
+            merging::parts()?;
+            println!("Port / original, in µs:\n");
+            merging::growth()?;
+            lists::lists()
+        }
+        [command, seconds, log, batch] if command == "repeat" => {
+            let (log, batch) = (number(log)?, number(batch)?);
+            merging::repeat(number(seconds)?, log as usize, batch as usize)
+        }
+        _ => Err("usage: bench, or bench repeat SECONDS LOGGED BATCH".into()),
+    }
+}
+
+#[cfg(not(oracle_present))]
+fn run(_: &[String]) -> Result<(), String> {
+    Err("the Rust original is absent: name its folder in TPT_REPLICATE_SRC".into())
+}

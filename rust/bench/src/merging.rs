@@ -1,0 +1,181 @@
+//! Batch calls: the workloads, how their time grows, and where the port's goes.
+
+use cuwelfra::{Row, MAX_LOGGED};
+
+use crate::case::{Before, Case, Counts};
+use crate::rows::{chained, earlier, waiting};
+use crate::timing::{micros, rounds};
+
+/// Rounds of a workload.
+const ROUNDS: usize = 200;
+/// Rounds of a cell of the tables of growth.
+const FEW: usize = 60;
+const LOGS: [usize; 3] = [0, 512, 960];
+
+type Done = Result<(), String>;
+
+/// What each log is offered.
+type Offer = (
+    &'static str,
+    fn(usize) -> Option<(Before, Vec<Row>, Counts)>,
+);
+
+const OFFERS: [Offer; 6] = [
+    ("64 fresh rows in order", |log| {
+        Some((chain(log), next(log, 64), applied(64)))
+    }),
+    ("64 fresh rows in reverse causal order", |log| {
+        let rows = next(log, 64).into_iter().rev().collect();
+        Some((chain(log), rows, applied(64)))
+    }),
+    ("64 fresh rows with stamps before all logged ones", |log| {
+        let rows = (0..64).map(earlier).collect();
+        (log > 0).then_some((chain(log), rows, applied(64)))
+    }),
+    ("64 duplicates of logged rows", |log| {
+        let rows = next(log.checked_sub(64)?, 64);
+        let counts = Counts {
+            duplicates: 64,
+            ..Counts::default()
+        };
+        Some((chain(log), rows, counts))
+    }),
+    ("64 rows that fill the held rows", |log| {
+        let counts = Counts {
+            held: 64,
+            ..Counts::default()
+        };
+        Some((chain(log), held(log), counts))
+    }),
+    ("1 row that releases 63 held ones", |log| {
+        let before = Before {
+            held: held(log).into_iter().take(63).collect(),
+            ..chain(log)
+        };
+        Some((before, next(log, 1), applied(64)))
+    }),
+];
+
+/// The first rows of the chain, logged.
+fn chain(log: usize) -> Before {
+    Before {
+        logged: next(0, log),
+        held: Vec::new(),
+    }
+}
+
+/// So many rows of the chain from a place on.
+fn next(from: usize, count: usize) -> Vec<Row> {
+    (from..from + count).map(|n| chained(n as u64)).collect()
+}
+
+/// 64 rows that wait for the chain's next.
+fn held(log: usize) -> Vec<Row> {
+    (0..64).map(|n| waiting(n, log as u64)).collect()
+}
+
+fn applied(applied: usize) -> Counts {
+    Counts {
+        applied,
+        ..Counts::default()
+    }
+}
+
+/// The workloads, on log areas of 1,024 slots and on ones that are just large enough.
+pub fn workloads() -> Done {
+    println!("| batch call | rows logged | slots | port | original | port ÷ original | port through the wrapper | building the batch's bytes |");
+    println!("|---|---|---|---|---|---|---|---|");
+    for (name, offer) in OFFERS {
+        for log in LOGS {
+            if let Some((before, rows, counts)) = offer(log) {
+                workload(name, &before, MAX_LOGGED, rows, counts)?;
+            }
+        }
+    }
+    for log in LOGS {
+        workload(
+            OFFERS[0].0,
+            &chain(log),
+            log + 64,
+            next(log, 64),
+            applied(64),
+        )?;
+    }
+    println!();
+    Ok(())
+}
+
+fn workload(name: &str, before: &Before, slots: usize, rows: Vec<Row>, counts: Counts) -> Done {
+    let case =
+        Case::new(before, slots, rows, counts).map_err(|error| format!("{name}: {error}"))?;
+    let subjects = [
+        case.exported(),
+        case.original(),
+        case.wrapped(),
+        case.building(),
+    ];
+    let [port, original, wrapped, building] = rounds(ROUNDS, subjects);
+    println!(
+        "| {name} | {} | {slots} | {port} | {original} | {:.1} | {wrapped} | {building} |",
+        before.logged.len(),
+        port.over(&original)
+    );
+    Ok(())
+}
+
+/// The time of 64 fresh rows, and of its parts that can be called alone.
+pub fn parts() -> Done {
+    println!("| rows logged | slots | batch call | store rules alone | reading the rows alone | the rest |");
+    println!("|---|---|---|---|---|---|");
+    for (log, slots) in [(0, 64), (0, 1_024), (512, 576), (512, 1_024), (960, 1_024)] {
+        let case = Case::new(&chain(log), slots, next(log, 64), applied(64))?;
+        let subjects = [case.exported(), case.checking(), case.reading()];
+        let [call, check, read] = rounds(ROUNDS, subjects);
+        let rest = call.median.saturating_sub(check.median + read.median);
+        println!(
+            "| {log} | {slots} | {call} | {check} | {read} | {} |",
+            micros(rest)
+        );
+    }
+    println!();
+    Ok(())
+}
+
+/// Fresh rows in order: every size of log by every size of batch, in 1,024 slots.
+pub fn growth() -> Done {
+    const BATCHES: [usize; 5] = [1, 8, 16, 32, 64];
+    println!(
+        "| rows logged | {} |",
+        BATCHES.map(|rows| format!("batch of {rows}")).join(" | ")
+    );
+    println!("|---|---|---|---|---|---|");
+    for log in [0, 128, 256, 512, 768, 960] {
+        let mut cells = Vec::new();
+        for batch in BATCHES {
+            let case = Case::new(&chain(log), MAX_LOGGED, next(log, batch), applied(batch))?;
+            let [port, original] = rounds(FEW, [case.exported(), case.original()]);
+            cells.push(format!(
+                "{} / {}",
+                micros(port.median),
+                micros(original.median)
+            ));
+        }
+        println!("| {log} | {} |", cells.join(" | "));
+    }
+    println!();
+    Ok(())
+}
+
+/// The port's call alone, again and again, for a profiler.
+pub fn repeat(seconds: u64, log: usize, batch: usize) -> Done {
+    let case = Case::new(&chain(log), MAX_LOGGED, next(log, batch), applied(batch))?;
+    let mut call = case.exported();
+    let start = std::time::Instant::now();
+    let mut calls = 0u64;
+    while start.elapsed().as_secs() < seconds {
+        call();
+        calls += 1;
+    }
+    println!("{calls} calls");
+    Ok(())
+}

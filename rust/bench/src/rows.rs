@@ -1,0 +1,79 @@
+//! The rows of the workloads, in the forms of the port and of the original.
+
+use cuwelfra::{ActorId, Row, Timestamp};
+use oracle::log::StampedOperation;
+
+/// Authors that take turns.
+const AUTHORS: u64 = 8;
+const PAYLOAD: usize = 64;
+const SIGNATURE: usize = 64;
+/// The wall time of the first row; one ms passes from row to row.
+const START: u64 = 1_000_000;
+
+/// The time of every batch call: all rows are in its past, and none that waits is too old.
+pub const NOW: u64 = START + 10_000;
+
+/// Row `n` of one causal chain. Its author has seen all rows before it, so it depends on as many authors as there are,
+/// which is what the original's engine writes.
+pub fn chained(n: u64) -> Row {
+    let seen = |author: u64| (n + AUTHORS - 1 - author) / AUTHORS;
+    let deps = (0..AUTHORS).map(|author| (ActorId(1 + author), seen(author)));
+    let mut row = row(1 + n % AUTHORS, 1 + n / AUTHORS, START + n);
+    row.deps = deps.filter(|(_, number)| *number > 0).collect();
+    row
+}
+
+/// Row `n` of authors that the chain has not, with stamps before all of the chain's and no dependencies.
+pub fn earlier(n: u64) -> Row {
+    row(101 + n % AUTHORS, 1 + n / AUTHORS, START - 1_000 + n)
+}
+
+/// Row `n` of those authors, which waits for row `cause` of the chain.
+pub fn waiting(n: u64, cause: u64) -> Row {
+    let mut row = row(101 + n % AUTHORS, 1 + n / AUTHORS, START + 5_000 + n);
+    row.deps = vec![(ActorId(1 + cause % AUTHORS), 1 + cause / AUTHORS)];
+    row
+}
+
+fn row(author: u64, seq: u64, wall_time: u64) -> Row {
+    let actor = ActorId(author);
+    let bytes = |len: usize, mark: u64| (0..len as u64).map(|i| (i * 31 + mark) as u8).collect();
+    Row {
+        timestamp: Timestamp {
+            wall_time,
+            logical_counter: 0,
+            actor_id: actor,
+        },
+        actor,
+        seq,
+        deps: Vec::new(),
+        payload: bytes(PAYLOAD, author + seq),
+        signature: bytes(SIGNATURE, author ^ seq),
+    }
+}
+
+/// The original's form.
+pub fn operation(row: &Row) -> StampedOperation {
+    let actor = |actor: ActorId| oracle::stubs::ActorId(actor.0);
+    let deps = row.deps.iter().map(|(author, seq)| (actor(*author), *seq));
+    StampedOperation {
+        timestamp: oracle::clock::Timestamp {
+            wall_time: row.timestamp.wall_time,
+            logical_counter: row.timestamp.logical_counter,
+            actor_id: actor(row.timestamp.actor_id),
+        },
+        actor: actor(row.actor),
+        seq: row.seq,
+        deps: oracle::clock::VectorClock {
+            peers: deps.collect(),
+        },
+        op: oracle::stubs::UirNode {
+            bytes: row.payload.clone(),
+        },
+        signature: row.signature.clone(),
+    }
+}
+
+pub fn operations(rows: &[Row]) -> Vec<StampedOperation> {
+    rows.iter().map(operation).collect()
+}
