@@ -1,4 +1,5 @@
 //! Runs the port against the Rust original: `differential [SUITE...]`, all suites without a name.
+//! `differential fuzz MINUTES [SEED]` compares random inputs until the time is over; `fuzz` says how.
 //! `differential record FILE` writes a sample of the original's answers, in the form that `record` describes.
 
 #![deny(warnings)]
@@ -15,6 +16,8 @@ mod census;
 mod damage;
 mod demand;
 mod desk;
+#[cfg(oracle_present)]
+mod fuzz;
 #[cfg(oracle_present)]
 mod joined;
 #[cfg(oracle_present)]
@@ -48,6 +51,9 @@ use suites::{Suite, SUITES};
 
 fn main() -> ExitCode {
     let names: Vec<String> = std::env::args().skip(1).collect();
+    if names.first().is_some_and(|command| command == "fuzz") {
+        return fuzz(&names[1..]);
+    }
     if let [command, file] = &names[..] {
         if command == "record" {
             return record(file);
@@ -71,6 +77,17 @@ fn main() -> ExitCode {
         }
         None => ExitCode::FAILURE,
     }
+}
+
+#[cfg(oracle_present)]
+fn fuzz(arguments: &[String]) -> ExitCode {
+    fuzz::run(arguments)
+}
+
+#[cfg(not(oracle_present))]
+fn fuzz(_: &[String]) -> ExitCode {
+    eprintln!("The port is compared with the Rust original, and the original is absent.");
+    ExitCode::FAILURE
 }
 
 /// Writes the sample.

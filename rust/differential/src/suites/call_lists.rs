@@ -116,20 +116,29 @@ fn snapshot(rng: &mut Rng, universe: &Universe) -> ReplicatedLog {
 
 /// Outcomes are not compared: some rows that the call must ignore come with another one.
 fn other_outcomes(rng: &mut Rng, joined: &Joined, offer: &mut Offer) {
+    let ignored = ignored(joined, offer);
+    for (lent, ignored) in offer.rows.iter_mut().zip(ignored) {
+        if ignored && rng.once_in(3) {
+            lent.outcome = rng.next() % 5;
+            lent.detail = if matches!(lent.outcome, 2 | 4) { 77 } else { 0 };
+        }
+    }
+}
+
+/// Which rows the call must ignore: they are logged, held, or earlier in the batch.
+pub fn ignored(joined: &Joined, offer: &Offer) -> Vec<bool> {
     let clock = joined.original.log.clock();
     let oldest = offer.time.saturating_sub(offer.limits.max_pending_age_ms);
     let kept = joined.original.held().iter();
     let kept = kept.filter(|held| held.arrival >= oldest);
     let mut seen: Vec<(u64, u64)> = kept.map(|held| (held.row.author, held.row.seq)).collect();
-    for lent in &mut offer.rows {
-        let (author, seq) = (lent.row.author, lent.row.seq);
-        let ignored = seq <= clock.get(ActorId(author)) || seen.contains(&(author, seq));
-        if ignored && rng.once_in(3) {
-            lent.outcome = rng.next() % 5;
-            lent.detail = if matches!(lent.outcome, 2 | 4) { 77 } else { 0 };
-        }
-        seen.push((author, seq));
+    let mut ignored = Vec::new();
+    for lent in &offer.rows {
+        let id = (lent.row.author, lent.row.seq);
+        ignored.push(id.1 <= clock.get(ActorId(id.0)) || seen.contains(&id));
+        seen.push(id);
     }
+    ignored
 }
 
 /// A call that the original cannot answer: over capacity, short, damaged or unreadable.

@@ -41,7 +41,7 @@ pub fn run(rng: &mut Rng) -> Outcome {
     Ok(cases)
 }
 
-fn sound(rng: &mut Rng) -> (World, Areas) {
+pub fn sound(rng: &mut Rng) -> (World, Areas) {
     let world = if rng.once_in(6) {
         World::of(rng, 30)
     } else {
@@ -196,7 +196,7 @@ fn flipped(rng: &mut Rng, areas: &mut Areas, others: &Others) -> Check {
 }
 
 /// The check and one more call.
-fn judged(
+pub fn judged(
     rng: &mut Rng,
     areas: &mut Areas,
     others: &Others,

@@ -5,7 +5,7 @@ use crate::support::Outcome;
 
 mod batch_bytes;
 #[cfg(oracle_present)]
-mod call_lists;
+pub mod call_lists;
 #[cfg(oracle_present)]
 mod chunks;
 #[cfg(oracle_present)]
@@ -13,7 +13,7 @@ mod compact;
 mod convergence;
 #[cfg(oracle_present)]
 mod cutoff;
-mod damaged_stores;
+pub mod damaged_stores;
 #[cfg(oracle_present)]
 mod delta;
 #[cfg(oracle_present)]
@@ -40,7 +40,7 @@ mod refusals;
 #[cfg(oracle_present)]
 pub mod row_bytes;
 #[cfg(oracle_present)]
-mod row_faults;
+pub mod row_faults;
 #[cfg(oracle_present)]
 mod timestamp;
 #[cfg(oracle_present)]
@@ -93,8 +93,19 @@ macro_rules! alone {
     };
 }
 
-/// The suites that run longest, in falling order.
-pub const LONGEST: [&str; 4] = ["call-lists", "convergence", "batch-bytes", "damaged-stores"];
+/// The suites that run for more than four seconds, in falling order.
+pub const LONGEST: [&str; 10] = [
+    "call-lists",
+    "cutoff",
+    "convergence",
+    "compact",
+    "lookup",
+    "log-insert",
+    "delta",
+    "chunks",
+    "peer-pending",
+    "from-parts",
+];
 
 pub const SUITES: &[Suite] = &[
     alone!("refusals", refusals::run),

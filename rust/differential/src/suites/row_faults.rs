@@ -18,7 +18,8 @@ const SLOTS: u64 = 200_000;
 
 pub fn run(rng: &mut Rng) -> Outcome {
     for _ in 0..FAULTS {
-        faulty(rng)?;
+        let batch = faulty(rng);
+        same_row(rng, &batch)?;
     }
     for _ in 0..SLOTS {
         damaged_slot(rng)?;
@@ -28,7 +29,7 @@ pub fn run(rng: &mut Rng) -> Outcome {
 
 /// A batch row of our own writing: overlong varints, sizes beyond capacity, authors that do not rise, wrong closing
 /// bytes; then cut, padded or changed.
-fn faulty(rng: &mut Rng) -> Check {
+pub fn faulty(rng: &mut Rng) -> Vec<u8> {
     let row = large_row(rng);
     let mut batch = Vec::new();
     let counter = match rng.below(12) {
@@ -84,16 +85,21 @@ fn faulty(rng: &mut Rng) -> Check {
         2 => batch.extend(pattern(rng.below(40))),
         _ => {}
     }
-    let read = read_row(&batch, 0);
+    batch
+}
+
+/// Requires that the bytes are read as document 01 says, or refused.
+pub fn same_row(rng: &mut Rng, batch: &[u8]) -> Check {
+    let read = read_row(batch, 0);
     let wanted = read
         .as_ref()
         .map(|(held, verdict, next)| (held, *verdict, *next));
-    same_read(rng, &batch, 0, wanted.map_err(|number| *number))?;
+    same_read(rng, batch, 0, wanted.map_err(|number| *number))?;
     if let Ok((held, ..)) = read {
         // What the port takes, the original reads the same, but that it drops dependencies with number 0.
         let mut row = held.row;
         row.deps.retain(|(_, number)| *number > 0);
-        let op = Reader::new(&batch).signed_op().map(|op| row_of(&op));
+        let op = Reader::new(batch).signed_op().map(|op| row_of(&op));
         let op = op.map_err(|error| format!("{error:?}"));
         agree(&Ok(row), &op, || format!("{batch:02x?}"))?;
     }

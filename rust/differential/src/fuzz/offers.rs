@@ -1,0 +1,132 @@
+//! Batch calls and rows: smaller ones, and how they are shown.
+
+use cuwelfra_sys::MergeLimits;
+
+use crate::batches::{batch, BatchRow};
+use crate::fuzz::shrink::{hex, lower, smaller_bytes, without};
+use crate::lists::Offer;
+use crate::rows::{Row, Stamp};
+
+/// The settings, each of which can be put back.
+const SETTINGS: [fn(&mut MergeLimits) -> &mut u64; 7] = [
+    |limits| &mut limits.max_pending,
+    |limits| &mut limits.max_pending_per_actor,
+    |limits| &mut limits.max_pending_bytes,
+    |limits| &mut limits.max_pending_age_ms,
+    |limits| &mut limits.max_drift_ms,
+    |limits| &mut limits.max_deps,
+    |limits| &mut limits.max_payload,
+];
+
+/// The same with one setting as it is by default.
+pub fn plainer_limits(limits: &MergeLimits) -> impl Iterator<Item = MergeLimits> {
+    let limits = *limits;
+    let plainer = SETTINGS.iter().map(move |setting| {
+        let mut plainer = limits;
+        *setting(&mut plainer) = *setting(&mut MergeLimits::default());
+        plainer
+    });
+    plainer.filter(move |plainer| *plainer != limits)
+}
+
+/// Fewer rows; then settings by default, an earlier time, rows that verify with their own outcome.
+pub fn smaller_offers(offer: &Offer) -> impl Iterator<Item = Offer> + '_ {
+    let with = |rows: Vec<BatchRow>| Offer {
+        rows,
+        ..offer.clone()
+    };
+    let fewer = without(&offer.rows).map(with);
+    let limits = plainer_limits(&offer.limits).map(|limits| Offer {
+        limits,
+        ..offer.clone()
+    });
+    let earlier = lower(offer.time).map(|time| Offer {
+        time,
+        ..offer.clone()
+    });
+    let plain = (0..offer.rows.len()).filter_map(move |at| {
+        let mut rows = offer.rows.clone();
+        let row = BatchRow::new(rows[at].row.clone());
+        let changed = rows[at] != row;
+        rows[at] = row;
+        changed.then(|| with(rows))
+    });
+    fewer.chain(limits).chain(earlier).chain(plain)
+}
+
+/// The same author with less of everything else.
+pub fn smaller_rows(row: &Row) -> Vec<Row> {
+    let mut smaller = Vec::new();
+    let mut put = |change: &dyn Fn(&mut Row)| {
+        let mut other = row.clone();
+        change(&mut other);
+        smaller.push(other);
+    };
+    for deps in without(&row.deps) {
+        put(&|row| row.deps.clone_from(&deps));
+    }
+    for payload in smaller_bytes(&row.payload) {
+        put(&|row| row.payload.clone_from(&payload));
+    }
+    for signature in smaller_bytes(&row.signature) {
+        put(&|row| row.signature.clone_from(&signature));
+    }
+    for (at, (_, number)) in row.deps.iter().enumerate() {
+        lower(*number).for_each(|number| put(&|row| row.deps[at].1 = number));
+    }
+    for stamp in smaller_stamps(row.stamp) {
+        put(&|row| row.stamp = stamp);
+    }
+    lower(row.seq).for_each(|seq| put(&|row| row.seq = seq));
+    smaller
+}
+
+/// An earlier stamp of the same author.
+pub fn smaller_stamps((wall, counter, author): Stamp) -> impl Iterator<Item = Stamp> {
+    let walls = lower(wall).map(move |wall| (wall, counter, author));
+    let counters = lower(counter.into()).map(move |counter| (wall, counter as u32, author));
+    walls.chain(counters)
+}
+
+pub fn shown_stamp((wall, counter, author): Stamp) -> String {
+    format!("{wall}/{counter}/{author}")
+}
+
+pub fn shown_row(row: &Row) -> String {
+    let deps = row.deps.iter().map(|(author, n)| format!("{author}:{n}"));
+    format!(
+        "{}:{} stamp {} needs [{}] payload [{}] signature [{}]",
+        row.author,
+        row.seq,
+        shown_stamp(row.stamp),
+        deps.collect::<Vec<_>>().join(" "),
+        hex(&row.payload),
+        hex(&row.signature)
+    )
+}
+
+pub fn shown_limits(limits: &MergeLimits) -> String {
+    if *limits == MergeLimits::default() {
+        return "default settings".into();
+    }
+    format!("{limits:?}")
+}
+
+pub fn shown_offer(offer: &Offer) -> String {
+    let mut text = format!(
+        "batch of {} at time {}, {}\n",
+        offer.rows.len(),
+        offer.time,
+        shown_limits(&offer.limits)
+    );
+    for lent in &offer.rows {
+        text += &format!(
+            "     {} verdict {} outcome {} detail {}\n",
+            shown_row(&lent.row),
+            lent.verdict,
+            lent.outcome,
+            lent.detail
+        );
+    }
+    text + &format!("     bytes {}\n", hex(&batch(&offer.rows)))
+}
