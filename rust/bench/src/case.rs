@@ -1,7 +1,7 @@
 //! A batch call on a store of the port and on the original's merger, from the same start.
 
 use cuwelfra::{
-    Batch, MergeLimits, MergeReport, Refusal, Row, Slot, Store, VectorClock, SLOT_BYTES,
+    Batch, Limits, Refusal, Report, Row, Slot, Store, VectorClock, LINE_BYTES, SLOT_BYTES,
 };
 use cuwelfra_sys as sys;
 use oracle::clock::Timestamp;
@@ -100,7 +100,7 @@ impl Case {
     /// The exported call on lent areas.
     pub fn exported(&self) -> Subject<'_> {
         let mut scratch = vec![0; 128 * SLOT_BYTES];
-        let mut output = vec![0; 128 * 18];
+        let mut output = vec![0; 128 * LINE_BYTES];
         Box::new(move || {
             let (mut log, mut held, mut head) = self.store.clone().into_areas();
             let areas = sys::AreasMut {
@@ -109,7 +109,7 @@ impl Case {
                 head: &mut head,
             };
             let batch = self.batch.bytes();
-            let limits = MergeLimits::default();
+            let limits = Limits::default().numbers();
             time(|| sys::apply_remote_ops(limits, NOW, areas, batch, &mut scratch, &mut output))
         })
     }
@@ -181,8 +181,8 @@ pub fn store_of(rows: &[Row], capacity: usize) -> Result<Store, Refusal> {
     Ok(store)
 }
 
-fn wrapped(store: &mut Store, batch: &[u8]) -> Result<MergeReport, Refusal> {
-    store.apply_remote_ops(&MergeLimits::default(), NOW, batch)
+fn wrapped(store: &mut Store, batch: &[u8]) -> Result<Report, Refusal> {
+    store.apply_remote_ops(&Limits::default(), NOW, batch)
 }
 
 fn merge(
@@ -195,20 +195,9 @@ fn merge(
 
 /// Requires that both logs have the same rows in the same order.
 pub fn same_log(store: &Store, log: &ReplicatedLog) -> Result<(), String> {
-    let (area, ..) = store.areas();
-    let rows = store.log_len().map_err(shown)?;
-    if rows != log.len() {
-        return Err(format!(
-            "{rows} rows logged, the original has {}",
-            log.len()
-        ));
-    }
-    for (slot, wanted) in area.chunks_exact(SLOT_BYTES).zip(log.ops()) {
-        let slot: [u8; SLOT_BYTES] = slot.try_into().map_err(shown)?;
-        let read = Slot::from_area(slot).row().map_err(shown)?;
-        if operation(&read.row) != *wanted {
-            return Err(format!("{read:?} logged, the original has {wanted:?}"));
-        }
+    let rows = store.ops().map_err(shown)?;
+    if rows.iter().map(operation).ne(log.ops().iter().cloned()) {
+        return Err(format!("the logs differ: {rows:?}, {:?}", log.ops()));
     }
     Ok(())
 }

@@ -79,10 +79,9 @@ fn delta(rows: &[Row]) -> Done {
     let store = store_of(rows, MAX_LOGGED).map_err(refused)?;
     let log = log_of(rows);
     let peer = Default::default();
-    let positions = store.delta(&VectorClock::new()).map_err(refused)?;
-    let wanted = calculate_delta(&log, &peer);
-    let same = positions.iter().map(|at| &log.ops()[*at]).eq(&wanted);
-    if !same {
+    let delta = store.delta(&VectorClock::new()).map_err(refused)?;
+    let rows = delta.rows().map_err(refused)?;
+    if operations(&rows) != calculate_delta(&log, &peer) {
         return Err("the deltas differ".into());
     }
     let (areas, clock) = (store.areas(), [0; CLOCK_BYTES]);
@@ -103,12 +102,9 @@ fn chunks(rows: &[Row]) -> Done {
     let peer = Default::default();
     let both = || chunk_ops(&calculate_delta(&log, &peer), CHUNK_ROWS, CHUNK_BYTES);
     let (most, bytes) = (CHUNK_ROWS as u64, CHUNK_BYTES as u64);
-    let counts = store.chunks(&VectorClock::new(), most, bytes);
-    if !counts
-        .map_err(refused)?
-        .into_iter()
-        .eq(both().iter().map(Vec::len))
-    {
+    let delta = store.delta(&VectorClock::new()).map_err(refused)?;
+    let counts = delta.chunk_lens(most, bytes).map_err(refused)?;
+    if counts.into_iter().ne(both().iter().map(Vec::len)) {
         return Err("the chunks differ".into());
     }
     let (areas, clock) = (store.areas(), [0; CLOCK_BYTES]);

@@ -36,20 +36,15 @@ pub fn waiting(n: u64, cause: u64) -> Row {
 }
 
 fn row(author: u64, seq: u64, wall_time: u64) -> Row {
-    let actor = ActorId(author);
-    let bytes = |len: usize, mark: u64| (0..len as u64).map(|i| (i * 31 + mark) as u8).collect();
-    Row {
-        timestamp: Timestamp {
-            wall_time,
-            logical_counter: 0,
-            actor_id: actor,
-        },
-        actor,
+    let bytes = |len: usize, mark: u64| -> Vec<u8> {
+        (0..len as u64).map(|i| (i * 31 + mark) as u8).collect()
+    };
+    Row::new(
+        Timestamp::new(wall_time, 0, ActorId(author)),
         seq,
-        deps: Vec::new(),
-        payload: bytes(PAYLOAD, author + seq),
-        signature: bytes(SIGNATURE, author ^ seq),
-    }
+        bytes(PAYLOAD, author + seq),
+    )
+    .signed(bytes(SIGNATURE, author ^ seq))
 }
 
 /// The original's form.

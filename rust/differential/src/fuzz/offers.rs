@@ -1,6 +1,6 @@
 //! Batch calls and rows: smaller ones, and how they are shown.
 
-use cuwelfra_sys::MergeLimits;
+use cuwelfra::Limits;
 
 use crate::batches::{batch, BatchRow};
 use crate::fuzz::shrink::{hex, lower, smaller_bytes, without};
@@ -8,7 +8,7 @@ use crate::lists::Offer;
 use crate::rows::{Row, Stamp};
 
 /// The settings, each of which can be put back.
-const SETTINGS: [fn(&mut MergeLimits) -> &mut u64; 7] = [
+const SETTINGS: [fn(&mut Limits) -> &mut u64; 7] = [
     |limits| &mut limits.max_pending,
     |limits| &mut limits.max_pending_per_actor,
     |limits| &mut limits.max_pending_bytes,
@@ -19,11 +19,11 @@ const SETTINGS: [fn(&mut MergeLimits) -> &mut u64; 7] = [
 ];
 
 /// The same with one setting as it is by default.
-pub fn plainer_limits(limits: &MergeLimits) -> impl Iterator<Item = MergeLimits> {
+pub fn plainer_limits(limits: &Limits) -> impl Iterator<Item = Limits> {
     let limits = *limits;
     let plainer = SETTINGS.iter().map(move |setting| {
         let mut plainer = limits;
-        *setting(&mut plainer) = *setting(&mut MergeLimits::default());
+        *setting(&mut plainer) = *setting(&mut Limits::default());
         plainer
     });
     plainer.filter(move |plainer| *plainer != limits)
@@ -105,8 +105,8 @@ pub fn shown_row(row: &Row) -> String {
     )
 }
 
-pub fn shown_limits(limits: &MergeLimits) -> String {
-    if *limits == MergeLimits::default() {
+pub fn shown_limits(limits: &Limits) -> String {
+    if *limits == Limits::default() {
         return "default settings".into();
     }
     format!("{limits:?}")
