@@ -1,6 +1,12 @@
 # For scripts that source it, with $root set: makes the static library where it is missing and builds a package of the
 # Rust workspace, quietly.
 
+# A relative name is one from the caller's folder.
+case ${TPT_REPLICATE_SRC:-} in
+'' | /*) ;;
+*) export TPT_REPLICATE_SRC=$PWD/$TPT_REPLICATE_SRC ;;
+esac
+
 # Runs one step at the top of the repository, and shows what it wrote only where it fails.
 quietly() { # COMMAND...
     local log

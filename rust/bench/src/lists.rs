@@ -29,9 +29,7 @@ pub fn lists() -> Done {
     from_parts("from_parts of 1,024 rows in reverse order", &reversed)?;
     delta(&rows)?;
     chunks(&rows)?;
-    varints()?;
-    println!();
-    Ok(())
+    varints()
 }
 
 fn line(name: &str, count: usize, port: Subject, original: Subject) {
@@ -122,7 +120,7 @@ fn lent<'a>((log, held, head): (&'a [u8], &'a [u8], &'a [u8])) -> sys::Areas<'a>
     sys::Areas { log, held, head }
 }
 
-/// A million numbers of every length.
+/// A million numbers of all lengths.
 fn varints() -> Done {
     let numbers: Vec<u64> = numbers().collect();
     let written = written(&numbers);
@@ -149,7 +147,7 @@ fn varints() -> Done {
     Ok(())
 }
 
-/// Splitmix64, shifted so that every length occurs as often.
+/// Splitmix64, shifted so that all lengths occur.
 fn numbers() -> impl Iterator<Item = u64> {
     let mut state = 0u64;
     (0..VARINTS).map(move |i| {

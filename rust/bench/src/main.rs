@@ -33,11 +33,14 @@ fn run(arguments: &[String]) -> Result<(), String> {
     let number = |text: &String| text.parse().map_err(|_| format!("{text} is no number"));
     match arguments {
         [] => {
-            println!("Times in µs: median (quartiles).\n");
+            println!("Times are in µs: the median, and the quartiles where there are two more numbers.\n");
+            println!("### Batch calls\n");
             merging::workloads()?;
+            println!("### Where the port's time goes, 64 fresh rows in order\n");
             merging::parts()?;
-            println!("Port / original, in µs:\n");
+            println!("### How the batch call grows, fresh rows in order: port / original\n");
             merging::growth()?;
+            println!("### Other calls\n");
             lists::lists()
         }
         [command, seconds, log, batch] if command == "repeat" => {

@@ -1,5 +1,7 @@
 //! Batch calls: the workloads, how their time grows, and where the port's goes.
 
+use std::time::{Duration, Instant};
+
 use cuwelfra::{Row, MAX_LOGGED};
 
 use crate::case::{Before, Case, Counts};
@@ -141,36 +143,93 @@ pub fn parts() -> Done {
     Ok(())
 }
 
+const SIZES: [usize; 6] = [0, 128, 256, 512, 768, 960];
+const BATCHES: [usize; 5] = [1, 8, 16, 32, 64];
+
+/// Medians of the port and the original, by size of log and size of batch.
+type Grown = [[[Duration; 2]; BATCHES.len()]; SIZES.len()];
+
 /// Fresh rows in order: every size of log by every size of batch, in 1,024 slots.
 pub fn growth() -> Done {
-    const BATCHES: [usize; 5] = [1, 8, 16, 32, 64];
+    let mut grown = Grown::default();
     println!(
         "| rows logged | {} |",
         BATCHES.map(|rows| format!("batch of {rows}")).join(" | ")
     );
     println!("|---|---|---|---|---|---|");
-    for log in [0, 128, 256, 512, 768, 960] {
-        let mut cells = Vec::new();
-        for batch in BATCHES {
+    for (log, cells) in SIZES.into_iter().zip(&mut grown) {
+        for (batch, cell) in BATCHES.into_iter().zip(cells.iter_mut()) {
             let case = Case::new(&chain(log), MAX_LOGGED, next(log, batch), applied(batch))?;
-            let [port, original] = rounds(FEW, [case.exported(), case.original()]);
-            cells.push(format!(
-                "{} / {}",
-                micros(port.median),
-                micros(original.median)
-            ));
+            let spreads = rounds(FEW, [case.exported(), case.original()]);
+            *cell = spreads.map(|spread| spread.median);
         }
+        let cells = cells.map(|cell| cell.map(micros).join(" / "));
         println!("| {log} | {} |", cells.join(" | "));
     }
     println!();
+    slopes(&grown);
     Ok(())
+}
+
+/// What a further row costs, from cells of that table.
+fn slopes(grown: &Grown) {
+    let (last, most) = (SIZES.len() - 1, BATCHES.len() - 1);
+    let logged = SIZES[last] as f64;
+    let steps = [
+        (
+            "a logged row, batch of 1",
+            grown[0][0],
+            grown[last][0],
+            logged,
+        ),
+        (
+            "a logged row, batch of 64",
+            grown[0][most],
+            grown[last][most],
+            logged,
+        ),
+        (
+            "a batch row from 8 to 16, empty log",
+            grown[0][1],
+            grown[0][2],
+            8.0,
+        ),
+        (
+            "a batch row from 32 to 64, empty log",
+            grown[0][3],
+            grown[0][4],
+            32.0,
+        ),
+        (
+            "a batch row from 8 to 16, 960 logged",
+            grown[last][1],
+            grown[last][2],
+            8.0,
+        ),
+        (
+            "a batch row from 32 to 64, 960 logged",
+            grown[last][3],
+            grown[last][4],
+            32.0,
+        ),
+    ];
+    println!("| one more | port | original |");
+    println!("|---|---|---|");
+    for (name, from, to, rows) in steps {
+        let cost = |side: usize| {
+            let more = to[side].as_secs_f64() - from[side].as_secs_f64();
+            format!("{:.3}", more * 1e6 / rows)
+        };
+        println!("| {name} | {} | {} |", cost(0), cost(1));
+    }
+    println!();
 }
 
 /// The port's call alone, again and again, for a profiler.
 pub fn repeat(seconds: u64, log: usize, batch: usize) -> Done {
     let case = Case::new(&chain(log), MAX_LOGGED, next(log, batch), applied(batch))?;
     let mut call = case.exported();
-    let start = std::time::Instant::now();
+    let start = Instant::now();
     let mut calls = 0u64;
     while start.elapsed().as_secs() < seconds {
         call();
