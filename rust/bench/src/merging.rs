@@ -1,17 +1,17 @@
 //! Batch calls: the workloads, how their time grows, and where the port's goes.
 
-use std::time::{Duration, Instant};
+use std::time::Instant;
 
 use cuwelfra::{Row, MAX_LOGGED};
 
 use crate::case::{Before, Case, Counts};
 use crate::rows::{chained, earlier, waiting};
-use crate::timing::{micros, rounds};
+use crate::timing::{micros, rounds, Spread};
 
 /// Rounds of a workload.
 const ROUNDS: usize = 200;
 /// Rounds of a cell of the tables of growth.
-const FEW: usize = 60;
+const FEW: usize = 100;
 const LOGS: [usize; 3] = [0, 512, 960];
 
 type Done = Result<(), String>;
@@ -146,24 +146,21 @@ pub fn parts() -> Done {
 const SIZES: [usize; 6] = [0, 128, 256, 512, 768, 960];
 const BATCHES: [usize; 5] = [1, 8, 16, 32, 64];
 
-/// Medians of the port and the original, by size of log and size of batch.
-type Grown = [[[Duration; 2]; BATCHES.len()]; SIZES.len()];
+/// The port and the original, by size of log and size of batch.
+type Grown = [[[Spread; 2]; BATCHES.len()]; SIZES.len()];
 
 /// Fresh rows in order: every size of log by every size of batch, in 1,024 slots.
 pub fn growth() -> Done {
-    let mut grown = Grown::default();
-    println!(
-        "| rows logged | {} |",
-        BATCHES.map(|rows| format!("batch of {rows}")).join(" | ")
-    );
+    let titles = BATCHES.map(|rows| format!("batch of {rows}"));
+    println!("| rows logged | {} |", titles.join(" | "));
     println!("|---|---|---|---|---|---|");
+    let mut grown = Grown::default();
     for (log, cells) in SIZES.into_iter().zip(&mut grown) {
         for (batch, cell) in BATCHES.into_iter().zip(cells.iter_mut()) {
             let case = Case::new(&chain(log), MAX_LOGGED, next(log, batch), applied(batch))?;
-            let spreads = rounds(FEW, [case.exported(), case.original()]);
-            *cell = spreads.map(|spread| spread.median);
+            *cell = rounds(FEW, [case.exported(), case.original()]);
         }
-        let cells = cells.map(|cell| cell.map(micros).join(" / "));
+        let cells = cells.map(|cell| cell.map(|spread| micros(spread.median)).join(" / "));
         println!("| {log} | {} |", cells.join(" | "));
     }
     println!();
@@ -171,54 +168,38 @@ pub fn growth() -> Done {
     Ok(())
 }
 
-/// What a further row costs, from cells of that table.
+/// What a further row costs, from the lower quartiles of those cells, which disturbances reach least.
 fn slopes(grown: &Grown) {
-    let (last, most) = (SIZES.len() - 1, BATCHES.len() - 1);
-    let logged = SIZES[last] as f64;
+    let [none, .., most] = grown;
+    let logged = (SIZES[SIZES.len() - 1] - SIZES[0]) as f64;
     let steps = [
+        ("a logged row, batch of 1", none[0], most[0], logged),
+        ("a logged row, batch of 64", none[4], most[4], logged),
         (
-            "a logged row, batch of 1",
-            grown[0][0],
-            grown[last][0],
-            logged,
-        ),
-        (
-            "a logged row, batch of 64",
-            grown[0][most],
-            grown[last][most],
-            logged,
-        ),
-        (
-            "a batch row from 8 to 16, empty log",
-            grown[0][1],
-            grown[0][2],
-            8.0,
+            "a batch row from 1 to 16, empty log",
+            none[0],
+            none[2],
+            15.0,
         ),
         (
             "a batch row from 32 to 64, empty log",
-            grown[0][3],
-            grown[0][4],
+            none[3],
+            none[4],
             32.0,
         ),
         (
-            "a batch row from 8 to 16, 960 logged",
-            grown[last][1],
-            grown[last][2],
-            8.0,
-        ),
-        (
-            "a batch row from 32 to 64, 960 logged",
-            grown[last][3],
-            grown[last][4],
-            32.0,
+            "a batch row from 1 to 64, 960 logged",
+            most[0],
+            most[4],
+            63.0,
         ),
     ];
     println!("| one more | port | original |");
     println!("|---|---|---|");
     for (name, from, to, rows) in steps {
         let cost = |side: usize| {
-            let more = to[side].as_secs_f64() - from[side].as_secs_f64();
-            format!("{:.3}", more * 1e6 / rows)
+            let more = to[side].low.as_secs_f64() - from[side].low.as_secs_f64();
+            format!("{:.2}", more * 1e6 / rows)
         };
         println!("| {name} | {} | {} |", cost(0), cost(1));
     }

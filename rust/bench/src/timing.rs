@@ -8,7 +8,7 @@ use std::time::{Duration, Instant};
 const WARM_UP: usize = 5;
 
 /// The median and the quartiles.
-#[derive(Clone, Copy)]
+#[derive(Clone, Copy, Default)]
 pub struct Spread {
     pub low: Duration,
     pub median: Duration,
