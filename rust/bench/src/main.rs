@@ -41,7 +41,9 @@ fn run(arguments: &[String]) -> Result<(), String> {
             println!("### How the batch call grows, fresh rows in order: port / original\n");
             merging::growth()?;
             println!("### Other calls\n");
-            lists::lists()
+            lists::lists()?;
+            println!("\n{}", timing::disturbances());
+            Ok(())
         }
         [command, seconds, log, batch] if command == "repeat" => {
             let (log, batch) = (number(log)?, number(batch)?);

@@ -1,11 +1,15 @@
 //! Repeated timings of several subjects, one after the other in each round, so that disturbances hit all of them.
 
 use std::fmt;
+use std::fs;
 use std::hint::black_box;
+use std::sync::atomic::{AtomicU64, Ordering::Relaxed};
 use std::time::{Duration, Instant};
 
 /// Rounds before those that count.
 const WARM_UP: usize = 5;
+/// How often a call is made at most until nothing disturbs it.
+const ATTEMPTS: usize = 8;
 
 /// The median and the quartiles.
 #[derive(Clone, Copy, Default)]
@@ -50,16 +54,31 @@ pub fn micros(time: Duration) -> String {
     }
 }
 
-/// Something that prepares what it needs, and gives the time of the part that counts.
-pub type Subject<'a> = Box<dyn FnMut() -> Duration + 'a>;
+/// The time of a call, and whether another process had the core meanwhile.
+pub struct Timed {
+    time: Duration,
+    disturbed: bool,
+}
 
-/// The time of one call. What the call gives is dropped outside.
-pub fn time<T>(call: impl FnOnce() -> T) -> Duration {
+/// Something that prepares what it needs, and times the part that counts.
+pub type Subject<'a> = Box<dyn FnMut() -> Timed + 'a>;
+
+/// Times one call. What the call gives is dropped outside.
+pub fn time<T>(call: impl FnOnce() -> T) -> Timed {
+    let before = slices();
     let start = Instant::now();
     let given = call();
     let time = start.elapsed();
+    let disturbed = slices() != before;
     black_box(given);
-    time
+    Timed { time, disturbed }
+}
+
+/// How often this thread was given a core, as Linux counts it; always 0 where that is not told.
+fn slices() -> u64 {
+    let told = fs::read_to_string("/proc/thread-self/schedstat").unwrap_or_default();
+    let slices = told.split_whitespace().nth(2);
+    slices.and_then(|number| number.parse().ok()).unwrap_or(0)
 }
 
 /// Times all subjects in each of so many rounds.
@@ -67,11 +86,41 @@ pub fn rounds<const N: usize>(count: usize, mut subjects: [Subject; N]) -> [Spre
     let mut times = [const { Vec::new() }; N];
     for round in 0..WARM_UP + count {
         for (times, subject) in times.iter_mut().zip(&mut subjects) {
-            let time = subject();
+            let time = undisturbed(subject);
             if round >= WARM_UP {
                 times.push(time);
             }
         }
     }
     times.map(Spread::of)
+}
+
+/// The first time that no other process had a share in; the last of some, where there is none.
+fn undisturbed(subject: &mut Subject) -> Duration {
+    for _ in 1..ATTEMPTS {
+        let timed = subject();
+        CALLS.fetch_add(1, Relaxed);
+        if !timed.disturbed {
+            return timed.time;
+        }
+        REPEATED.fetch_add(1, Relaxed);
+    }
+    let timed = subject();
+    CALLS.fetch_add(1, Relaxed);
+    KEPT.fetch_add(u64::from(timed.disturbed), Relaxed);
+    timed.time
+}
+
+/// All calls that were timed, those made again, and those kept though disturbed.
+static CALLS: AtomicU64 = AtomicU64::new(0);
+static REPEATED: AtomicU64 = AtomicU64::new(0);
+static KEPT: AtomicU64 = AtomicU64::new(0);
+
+/// How much other processes disturbed.
+pub fn disturbances() -> String {
+    let [calls, repeated, kept] = [&CALLS, &REPEATED, &KEPT].map(|count| count.load(Relaxed));
+    format!(
+        "Of {calls} timed calls {repeated} were made again, since another process had the core meanwhile; \
+         {kept} that were disturbed each time are counted."
+    )
 }
