@@ -12,8 +12,8 @@ use crate::timing::{rounds, time, Subject};
 
 const ROUNDS: usize = 100;
 const VARINTS: usize = 1_000_000;
-/// Rounds of a million varints.
-const FEW: usize = 20;
+/// Varints that are timed together.
+const PART: usize = 10_000;
 /// The original's own default for a chunk.
 const CHUNK_ROWS: usize = 64;
 const CHUNK_BYTES: usize = 65_536;
@@ -120,29 +120,44 @@ fn lent<'a>((log, held, head): (&'a [u8], &'a [u8], &'a [u8])) -> sys::Areas<'a>
     sys::Areas { log, held, head }
 }
 
-/// A million numbers of all lengths.
+/// A million numbers of all lengths, in parts that are timed in turn.
 fn varints() -> Done {
     let numbers: Vec<u64> = numbers().collect();
-    let written = written(&numbers);
-    let mut out = vec![0; written.len()];
-    if put(&numbers, &mut out) != written.len() || out != written {
-        return Err("the varints written differ".into());
+    let parts: Vec<&[u64]> = numbers.chunks(PART).collect();
+    let texts: Vec<Vec<u8>> = parts.iter().map(|part| written(part)).collect();
+    let mut out = vec![0; 10 * PART];
+    for (part, text) in parts.iter().zip(&texts) {
+        let sum = part.iter().fold(0, |sum: u64, n| sum.wrapping_add(*n));
+        let len = put(part, &mut out);
+        if out[..len] != text[..] || get(text) != sum || read(text) != sum {
+            return Err("the varints differ".into());
+        }
     }
-    let sum = numbers.iter().fold(0, |sum: u64, n| sum.wrapping_add(*n));
-    if get(&written) != sum || read(&written) != sum {
-        return Err("the varints read differ".into());
-    }
+    let (mut put_turn, mut written_turn) = (parts.iter().cycle(), parts.iter().cycle());
     line(
-        "1,000,000 varints written",
-        FEW,
-        Box::new(|| time(|| put(&numbers, &mut out))),
-        Box::new(|| time(|| self::written(&numbers))),
+        "10,000 of a million varints written",
+        ROUNDS,
+        Box::new(move || {
+            let part = put_turn.next();
+            time(|| part.map(|part| put(part, &mut out)))
+        }),
+        Box::new(move || {
+            let part = written_turn.next();
+            time(|| part.map(|part| written(part)))
+        }),
     );
+    let (mut get_turn, mut read_turn) = (texts.iter().cycle(), texts.iter().cycle());
     line(
-        "1,000,000 varints read",
-        FEW,
-        Box::new(|| time(|| get(&written))),
-        Box::new(|| time(|| read(&written))),
+        "10,000 of a million varints read",
+        ROUNDS,
+        Box::new(move || {
+            let text = get_turn.next();
+            time(|| text.map(|text| get(text)))
+        }),
+        Box::new(move || {
+            let text = read_turn.next();
+            time(|| text.map(|text| read(text)))
+        }),
     );
     Ok(())
 }
@@ -172,11 +187,11 @@ fn written(numbers: &[u64]) -> Vec<u8> {
     writer.finish()
 }
 
-/// The sum of a million varints.
+/// The sum of a part's varints.
 fn get(bytes: &[u8]) -> u64 {
     let mut at = 0;
     let mut sum = 0u64;
-    for _ in 0..VARINTS {
+    for _ in 0..PART {
         let read = sys::get_varint(bytes, at);
         at = read.next as usize;
         sum = sum.wrapping_add(read.value);
@@ -187,7 +202,7 @@ fn get(bytes: &[u8]) -> u64 {
 fn read(bytes: &[u8]) -> u64 {
     let mut reader = Reader::new(bytes);
     let mut sum = 0u64;
-    for _ in 0..VARINTS {
+    for _ in 0..PART {
         sum = sum.wrapping_add(reader.varint().unwrap_or(0));
     }
     sum

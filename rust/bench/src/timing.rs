@@ -17,16 +17,20 @@ pub struct Spread {
     pub low: Duration,
     pub median: Duration,
     pub high: Duration,
+    /// Most of the times are of disturbed calls.
+    disturbed: bool,
 }
 
 impl Spread {
-    fn of(mut times: Vec<Duration>) -> Self {
-        times.sort();
-        let at = |quarter: usize| times[(times.len() - 1) * quarter / 4];
+    fn of(mut times: Vec<Timed>) -> Self {
+        times.sort_by_key(|timed| timed.time);
+        let at = |quarter: usize| times[(times.len() - 1) * quarter / 4].time;
+        let disturbed = times.iter().filter(|timed| timed.disturbed).count();
         Self {
             low: at(1),
             median: at(2),
             high: at(3),
+            disturbed: 2 * disturbed > times.len(),
         }
     }
 
@@ -40,7 +44,8 @@ impl Spread {
 impl fmt::Display for Spread {
     fn fmt(&self, f: &mut fmt::Formatter) -> fmt::Result {
         let [low, median, high] = [self.low, self.median, self.high].map(micros);
-        write!(f, "{median} ({low} to {high})")
+        let mark = if self.disturbed { " disturbed" } else { "" };
+        write!(f, "{median} ({low} to {high}){mark}")
     }
 }
 
@@ -96,19 +101,19 @@ pub fn rounds<const N: usize>(count: usize, mut subjects: [Subject; N]) -> [Spre
 }
 
 /// The first time that no other process had a share in; the last of some, where there is none.
-fn undisturbed(subject: &mut Subject) -> Duration {
+fn undisturbed(subject: &mut Subject) -> Timed {
     for _ in 1..ATTEMPTS {
         let timed = subject();
         CALLS.fetch_add(1, Relaxed);
         if !timed.disturbed {
-            return timed.time;
+            return timed;
         }
         REPEATED.fetch_add(1, Relaxed);
     }
     let timed = subject();
     CALLS.fetch_add(1, Relaxed);
     KEPT.fetch_add(u64::from(timed.disturbed), Relaxed);
-    timed.time
+    timed
 }
 
 /// All calls that were timed, those made again, and those kept though disturbed.
