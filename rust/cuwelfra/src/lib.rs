@@ -90,6 +90,7 @@ mod clock;
 mod codec;
 mod delta;
 mod explained;
+mod file;
 mod merge;
 mod peer;
 mod refusal;
@@ -105,6 +106,7 @@ pub use codec::{varint_len, Envelope, Reader, Writer, MAX_BODY, MAX_BODY_SIGNATU
 pub use cuwelfra_sys::Told;
 pub use delta::Delta;
 pub use explained::Explained;
+pub use file::{FileError, Update};
 pub use merge::{Fate, Limits, Logged, Report, LINE_BYTES};
 pub use peer::{Peer, PeerState, MAX_PINGS, PEER_BYTES};
 pub use refusal::Refusal;
