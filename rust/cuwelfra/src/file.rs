@@ -209,7 +209,9 @@ impl Update {
         self.temporary.rename(&self.path)?;
         File::open(folder(&self.path))
             .and_then(|folder| folder.sync_all())
-            .map_err(while_trying("sync the folder, in which the new file stands"))
+            .map_err(while_trying(
+                "sync the folder, in which the new file stands",
+            ))
     }
 }
 
@@ -421,7 +423,7 @@ fn crc64(bytes: &[u8]) -> u64 {
 #[cfg(test)]
 mod tests {
     use super::*;
-    use crate::{ActorId, Batch, Row, Timestamp};
+    use crate::{ActorId, Batch, Limits, Row, Timestamp};
 
     /// A folder of its own for a test, removed after it.
     struct Folder(PathBuf);
@@ -461,26 +463,31 @@ mod tests {
         }
     }
 
-    /// A store with a floor, and with these sequences of one author offered: 1 to 3 are logged, 9 is held.
+    /// A store with a floor, to which these sequences of one author were offered.
     fn store(slots: usize, seqs: &[u64]) -> Store {
-        let mut batch = Batch::new();
-        for seq in seqs {
-            let row = Row {
-                timestamp: stamp(10 * seq),
-                actor: ActorId(1),
-                seq: *seq,
-                deps: vec![(ActorId(1), 0)],
-                payload: b"Kette = chain".to_vec(),
-                signature: vec![7; 3],
-            };
-            batch.push(&row, true, Ok(())).expect("a row that fits");
-        }
         let mut store = Store::with_capacity(slots).expect("a store");
         store.set_floor(&stamp(5)).expect("a floor");
-        let limits = Default::default();
-        let report = store.apply_remote_ops(&limits, 100, batch.bytes());
-        report.expect("a batch that is accepted");
+        for seqs in seqs.chunks(64) {
+            let mut batch = Batch::new();
+            for seq in seqs {
+                let row = row(*seq);
+                batch.push(&row, true, Ok(())).expect("a row that fits");
+            }
+            let report = store.apply_remote_ops(&Limits::default(), 100, batch.bytes());
+            report.expect("a batch that is accepted");
+        }
         store
+    }
+
+    fn row(seq: u64) -> Row {
+        Row {
+            timestamp: stamp(10 * seq),
+            actor: ActorId(1),
+            seq,
+            deps: vec![(ActorId(1), 0)],
+            payload: b"Kette = chain".to_vec(),
+            signature: vec![7; 3],
+        }
     }
 
     /// The bytes with the checksum that they should have.
@@ -520,11 +527,13 @@ mod tests {
 
     #[test]
     fn the_largest_file_is_read() {
-        let rows: Vec<u64> = (1..=64).collect();
-        let store = store(1_024, &rows);
-        let bytes = encode(&store).expect("a sound store");
-        assert!(bytes.len() < LARGEST);
-        assert_eq!(decode(&bytes).expect("its file"), store);
+        let folder = Folder::new("largest");
+        let seqs: Vec<u64> = (1..=1_024).chain(2_000..2_064).collect();
+        let store = store(1_024, &seqs);
+        store.save(folder.file()).expect("a file to write");
+        assert_eq!(Store::load(folder.file()).expect("a file to read"), store);
+        let bytes = fs::metadata(folder.file()).expect("a file").len();
+        assert_eq!(bytes, LARGEST as u64);
     }
 
     #[test]
@@ -572,13 +581,25 @@ mod tests {
             (8, 2, "a store file of version 2; ".to_owned()),
             (16, 0, format!("{damaged}0 cannot be its number of slots")),
             (16, 1_025, format!("{damaged}1025 cannot be its number")),
-            (24, 703, format!("{damaged}703 cannot be its length of the log")),
+            (
+                24,
+                703,
+                format!("{damaged}703 cannot be its length of the log"),
+            ),
             (24, 2_112, format!("{damaged}2112 cannot be its length")),
             (32, 45_760, format!("{damaged}45760 cannot be its length")),
             (40, 2_128, format!("{damaged}2128 cannot be its length of")),
-            (40, u64::MAX, format!("{damaged}18446744073709551615 cannot")),
+            (
+                40,
+                u64::MAX,
+                format!("{damaged}18446744073709551615 cannot"),
+            ),
             (24, 0, format!("{damaged}bytes are left over behind")),
-            (24, 1_408, format!("{damaged}3592 bytes, where at least 4296")),
+            (
+                24,
+                1_408,
+                format!("{damaged}3584 bytes, where at least 4288"),
+            ),
         ];
         for (at, number, start) in faults {
             let told = told(at, number);
@@ -665,7 +686,10 @@ mod tests {
         mode(0o555).expect("a folder");
         if File::create(folder.0.join("probe")).is_err() {
             let error = store(1, &[]).save(folder.file()).expect_err("no room");
-            assert!(error.to_string().starts_with("cannot make a temp"), "{error}");
+            assert!(
+                error.to_string().starts_with("cannot make a temp"),
+                "{error}"
+            );
         }
         mode(0o755).expect("a folder");
         assert_eq!(Store::load(folder.file()).expect("the old file"), old);
