@@ -1,14 +1,16 @@
-//! Tables in plain text, and what a join shows in them.
+//! Tables in plain text, and what is shown in them.
 
 use std::fmt;
 
-use cuwelfra::{ActorId, ApplyError, Fate, Logged, Row};
+use cuwelfra::{ActorId, Fate, Logged, Row, Timestamp};
 
-use crate::join::{Told, Waiting};
+use crate::calls::Told;
+use crate::store::Waiting;
+use crate::text;
 
 /// Columns with titles. A column of numbers stands to the right.
 pub struct Table {
-    titles: &'static [&'static str],
+    titles: Vec<&'static str>,
     rows: Vec<Vec<String>>,
 }
 
@@ -20,7 +22,7 @@ impl fmt::Display for Table {
             .iter()
             .map(|column| "-".repeat(column.width))
             .collect();
-        write_line(f, &columns, self.titles)?;
+        write_line(f, &columns, &self.titles)?;
         write_line(f, &columns, &rules)?;
         self.rows
             .iter()
@@ -69,7 +71,7 @@ fn write_line(
 /// What each batch call told.
 pub fn calls(told: &[Told]) -> Table {
     Table {
-        titles: &[
+        titles: vec![
             "batch",
             "rows",
             "applied",
@@ -104,93 +106,91 @@ fn call(told: &Told) -> Vec<String> {
         }
         Err(refusal) => {
             cells.extend([const { String::new() }; 7]);
-            cells.push(format!("none: {refusal}"));
+            cells.push(format!("refused with {}", refusal.number()));
         }
     }
     cells
 }
 
 fn logged(logged: &Logged) -> String {
-    let row = format!("{}:{}", logged.actor.0, logged.seq);
+    let row = id(logged.actor, logged.seq);
     match logged.fate {
         Fate::Applied => row,
         Fate::Stale => format!("{row} (stale)"),
-        Fate::Rejected(ApplyError::MalformedOp) => format!("{row} (malformed)"),
-        Fate::Rejected(ApplyError::UnknownOpTag(tag)) => format!("{row} (unknown/{tag})"),
-        Fate::Rejected(ApplyError::Denied) => format!("{row} (denied)"),
-        Fate::Rejected(ApplyError::Invalid(text)) => format!("{row} (invalid/{text})"),
+        Fate::Rejected(error) => format!("{row} ({})", text::answer(error)),
     }
 }
 
-/// Logged rows.
-pub fn log(rows: &[Row]) -> Table {
-    let line = |(i, row): (usize, &Row)| {
-        let mut cells = place(i, row);
-        cells.push(text(&row.payload));
-        cells
-    };
-    Table {
-        titles: &[
-            "position",
-            "wall",
-            "counter",
-            "author",
-            "sequence",
-            "depends on",
-            "payload",
-        ],
-        rows: rows.iter().enumerate().map(line).collect(),
-    }
+/// Logged rows, by position.
+pub fn log(log: &[Row]) -> Table {
+    rows(
+        "position",
+        log.iter().enumerate().map(|(i, row)| (i.to_string(), row)),
+    )
 }
 
 /// Held rows, with what each waits for.
 pub fn held(held: &[Waiting]) -> Table {
-    let line = |(i, waiting): (usize, &Waiting)| {
-        let mut cells = place(i, &waiting.row);
-        cells.push(pairs(&waiting.causes));
-        cells.push(text(&waiting.row.payload));
-        cells
+    rows(
+        "waits for",
+        held.iter().map(|held| (pairs(&held.causes), &held.row)),
+    )
+}
+
+/// The rows of a delta's chunks, by chunk.
+pub fn delta(chunks: &[Vec<Row>]) -> Table {
+    let chunks = (1..).zip(chunks);
+    rows(
+        "chunk",
+        chunks.flat_map(|(i, chunk)| chunk.iter().map(move |row| (i.to_string(), row))),
+    )
+}
+
+/// Rows with a column before them.
+fn rows<'a>(title: &'static str, rows: impl Iterator<Item = (String, &'a Row)>) -> Table {
+    let line = |(first, row): (String, &Row)| {
+        vec![
+            first,
+            stamp(row.timestamp),
+            id(row.actor, row.seq),
+            pairs(&row.deps),
+            printed(&row.payload),
+        ]
     };
     Table {
-        titles: &[
-            "position",
-            "wall",
-            "counter",
-            "author",
-            "sequence",
-            "depends on",
-            "waits for",
-            "payload",
-        ],
-        rows: held.iter().enumerate().map(line).collect(),
+        titles: vec![title, "stamp", "row", "depends on", "payload"],
+        rows: rows.map(line).collect(),
     }
 }
 
-/// The cells that logged and held rows have in common.
-fn place(i: usize, row: &Row) -> Vec<String> {
-    vec![
-        i.to_string(),
-        row.timestamp.wall_time.to_string(),
-        row.timestamp.logical_counter.to_string(),
-        row.actor.0.to_string(),
-        row.seq.to_string(),
-        pairs(&row.deps),
-    ]
+/// A row's author and sequence.
+fn id(author: ActorId, seq: u64) -> String {
+    format!("{}:{seq}", author.0)
 }
 
 /// Authors and their numbers.
 pub fn pairs(pairs: &[(ActorId, u64)]) -> String {
     let pairs: Vec<String> = pairs
         .iter()
-        .map(|(author, number)| format!("{}:{number}", author.0))
+        .map(|(author, number)| id(*author, *number))
         .collect();
-    or_dash(pairs.join(", "))
+    or_dash(pairs.join(","))
+}
+
+/// A stamp in one word.
+pub fn stamp(stamp: Timestamp) -> String {
+    let Timestamp {
+        wall_time,
+        logical_counter,
+        actor_id,
+    } = stamp;
+    format!("{wall_time}/{logical_counter}/{}", actor_id.0)
 }
 
 /// A payload as text on one line.
-pub fn text(payload: &[u8]) -> String {
+fn printed(payload: &[u8]) -> String {
     let text = String::from_utf8_lossy(payload);
-    let shown = text.chars().map(|letter| match letter.is_control() {
+    let shown = text.chars().map(|letter| match text::unprinted(letter) {
         true => letter.escape_default().to_string(),
         false => letter.to_string(),
     });

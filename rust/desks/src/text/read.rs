@@ -1,43 +1,12 @@
-//! Batches as text that a person can write, one row a line:
-//!
-//! ```text
-//! WALL COUNTER AUTHOR SEQUENCE DEPENDENCIES PAYLOAD [ANSWER]
-//!
-//! time 2000
-//! 1030 0 1 3  2:2,4:1  "Schlauch = inner tube"           # a comment
-//! 1050 0 1 4  -        Kette=chain              denied
-//! ---
-//! ```
-//!
-//! - WALL and COUNTER are the stamp, whose author is AUTHOR; the signature is empty.
-//! - DEPENDENCIES are `AUTHOR:NUMBER`, authors rising, with commas between and no blanks, or `-` for none.
-//! - PAYLOAD is a bare word, or text between double quotes with no double quote in it.
-//! - ANSWER is what comes with the row: `fits` (also where it is left out), `malformed`, `unknown/TAG`, `denied`,
-//!   `invalid/NUMBER`, or `unverified` for a row whose signature is bad.
-//!
-//! A comment goes from `#`, where a word could begin, to the end of the line. A blank line or `---` ends a batch; a
-//! line with only a comment does not, and a batch without rows is left out. `time MS` stands before a batch's rows and
-//! is the time of its call and of the calls after it in this file.
+//! Text into batches.
 
 use std::fmt;
 use std::str::{self, FromStr};
 
-use cuwelfra::{ActorId, ApplyError, Row, Timestamp};
+use cuwelfra::{ActorId, ApplyError, BatchRow, Row, Timestamp};
 
-/// A row, and what comes with it in its batch.
-#[derive(Clone, Debug, PartialEq, Eq)]
-pub struct Entry {
-    pub row: Row,
-    pub verified: bool,
-    pub outcome: Result<(), ApplyError>,
-}
-
-/// The rows of a batch call, and its time where the text says one.
-#[derive(Clone, Debug, PartialEq, Eq)]
-pub struct Offer {
-    pub time_ms: Option<u64>,
-    pub entries: Vec<Entry>,
-}
+use super::words::{bytes, hex, words};
+use super::Offer;
 
 /// Where a text does not read, and why.
 #[derive(Clone, Debug, PartialEq, Eq)]
@@ -51,6 +20,7 @@ pub struct Unreadable {
 pub enum Fault {
     NotText,
     OpenQuote,
+    Escape(String),
     Words(usize),
     Number {
         what: &'static str,
@@ -59,6 +29,8 @@ pub enum Fault {
     },
     Dependency(String),
     Answer(String),
+    Signature(String),
+    Twice(String),
     LateTime,
 }
 
@@ -73,9 +45,14 @@ impl fmt::Display for Fault {
         match self {
             Self::NotText => write!(f, "not UTF-8 text"),
             Self::OpenQuote => write!(f, "a double quote is not closed"),
+            Self::Escape(part) => write!(
+                f,
+                "`\\{part}` does not begin with \\\", \\\\ or \\x and two hexadecimal digits"
+            ),
             Self::Words(count) => write!(
                 f,
-                "{count} words; a row has 6 or 7: WALL COUNTER AUTHOR SEQUENCE DEPENDENCIES PAYLOAD [ANSWER]"
+                "{count} words; a row has 6 to 9: WALL COUNTER AUTHOR SEQUENCE DEPENDENCIES PAYLOAD \
+                 [ANSWER] [unverified] [signature/HEX]"
             ),
             Self::Number { what, bits, word } => {
                 write!(f, "`{word}` is no {what}, which is a whole number below 2^{bits}")
@@ -86,8 +63,13 @@ impl fmt::Display for Fault {
             ),
             Self::Answer(word) => write!(
                 f,
-                "`{word}` is no answer; there are fits, malformed, unknown/TAG, denied, invalid/NUMBER, unverified"
+                "`{word}` is no answer; there are fits, malformed, unknown/TAG, denied, invalid/NUMBER, \
+                 and beside them unverified and signature/HEX"
             ),
+            Self::Signature(digits) => {
+                write!(f, "`{digits}` is no signature, which is two hexadecimal digits a byte")
+            }
+            Self::Twice(word) => write!(f, "`{word}` says again what a word before it says"),
             Self::LateTime => write!(f, "`time` stands before the rows of a batch"),
         }
     }
@@ -95,13 +77,16 @@ impl fmt::Display for Fault {
 
 /// The batches of a text.
 pub fn parse(text: &[u8]) -> Result<Vec<Offer>, Unreadable> {
-    let mut desk = Parser::default();
+    // Some editors put a mark before the first letter.
+    let text = text.strip_prefix(b"\xef\xbb\xbf").unwrap_or(text);
+    let mut parser = Parser::default();
     for (i, line) in text.split(|byte| *byte == b'\n').enumerate() {
-        desk.line(line)
+        parser
+            .line(line)
             .map_err(|fault| Unreadable { line: i + 1, fault })?;
     }
-    desk.end_batch();
-    Ok(desk.offers)
+    parser.end_batch();
+    Ok(parser.offers)
 }
 
 /// The batches read so far, and the one that is being read.
@@ -109,7 +94,7 @@ pub fn parse(text: &[u8]) -> Result<Vec<Offer>, Unreadable> {
 struct Parser {
     offers: Vec<Offer>,
     time_ms: Option<u64>,
-    entries: Vec<Entry>,
+    rows: Vec<BatchRow>,
 }
 
 impl Parser {
@@ -120,101 +105,120 @@ impl Parser {
             [] if line.trim().is_empty() => self.end_batch(),
             [] => {}
             ["---"] => self.end_batch(),
-            ["time", _] if !self.entries.is_empty() => return Err(Fault::LateTime),
+            ["time", _] if !self.rows.is_empty() => return Err(Fault::LateTime),
             ["time", ms] => self.time_ms = Some(number("time", ms)?),
-            _ => self.entries.push(entry(&words)?),
+            [wall, counter, author, seq, deps, payload, ref said @ ..] if said.len() <= 3 => {
+                let (counter, by) = match counter.split_once('/') {
+                    Some((counter, by)) => (counter, by),
+                    None => (counter, author),
+                };
+                let said = said.iter().try_fold(Said::default(), Said::and)?;
+                let row = Row {
+                    timestamp: stamp(wall, counter, by)?,
+                    actor: ActorId(number("author", author)?),
+                    seq: number("sequence", seq)?,
+                    deps: dependencies(deps)?,
+                    payload: bytes(payload)?,
+                    signature: said.signature.unwrap_or_default(),
+                };
+                self.rows.push(BatchRow {
+                    row,
+                    verified: !said.unverified,
+                    outcome: said.outcome.unwrap_or(Ok(())),
+                });
+            }
+            _ => return Err(Fault::Words(words.len())),
         }
         Ok(())
     }
 
     fn end_batch(&mut self) {
-        if !self.entries.is_empty() {
+        if !self.rows.is_empty() {
             self.offers.push(Offer {
                 time_ms: self.time_ms,
-                entries: std::mem::take(&mut self.entries),
+                rows: std::mem::take(&mut self.rows),
             });
         }
     }
 }
 
-/// The words of a line, without its comment. A quoted text is one word.
-fn words(line: &str) -> Result<Vec<&str>, Fault> {
-    let mut words = Vec::new();
-    let mut rest = line.trim_start();
-    while !rest.is_empty() && !rest.starts_with('#') {
-        let (word, after) = match rest.strip_prefix('"') {
-            Some(quoted) => quoted.split_once('"').ok_or(Fault::OpenQuote)?,
-            None => rest.split_at(rest.find(char::is_whitespace).unwrap_or(rest.len())),
-        };
-        words.push(word);
-        rest = after.trim_start();
-    }
-    Ok(words)
-}
-
-fn entry(words: &[&str]) -> Result<Entry, Fault> {
-    let (row, said) = match words {
-        [row @ .., said] if row.len() == 6 => (row, *said),
-        row => (row, "fits"),
-    };
-    let [wall, counter, author, seq, deps, payload] = row else {
-        return Err(Fault::Words(words.len()));
-    };
-    let actor = ActorId(number("author", author)?);
-    let row = Row {
-        timestamp: Timestamp {
-            wall_time: number("wall time", wall)?,
-            logical_counter: number("counter", counter)?,
-            actor_id: actor,
-        },
-        actor,
-        seq: number("sequence", seq)?,
-        deps: dependencies(deps)?,
-        payload: payload.as_bytes().to_vec(),
-        signature: Vec::new(),
-    };
-    let (verified, outcome) = answer(said)?;
-    Ok(Entry {
-        row,
-        verified,
-        outcome,
-    })
-}
-
-fn number<N: FromStr>(what: &'static str, word: &str) -> Result<N, Fault> {
-    word.parse().map_err(|_| Fault::Number {
+/// A number of decimal digits.
+pub fn number<N: FromStr>(what: &'static str, word: &str) -> Result<N, Fault> {
+    let digits = word.bytes().all(|byte| byte.is_ascii_digit());
+    let number = digits.then(|| word.parse().ok()).flatten();
+    number.ok_or_else(|| Fault::Number {
         what,
         bits: 8 * size_of::<N>(),
         word: word.to_owned(),
     })
 }
 
+/// A stamp in its three parts.
+pub fn stamp(wall: &str, counter: &str, author: &str) -> Result<Timestamp, Fault> {
+    Ok(Timestamp {
+        wall_time: number("wall time", wall)?,
+        logical_counter: number("counter", counter)?,
+        actor_id: ActorId(number("author", author)?),
+    })
+}
+
 fn dependencies(word: &str) -> Result<Vec<(ActorId, u64)>, Fault> {
+    pairs(word).map_err(|part| Fault::Dependency(part.to_owned()))
+}
+
+/// `AUTHOR:NUMBER` with commas between, or `-` for none; else the part that is none.
+pub fn pairs(word: &str) -> Result<Vec<(ActorId, u64)>, &str> {
     if word == "-" {
         return Ok(Vec::new());
     }
     let pair = |pair: &str| {
-        let (author, number) = pair.split_once(':')?;
-        Some((ActorId(author.parse().ok()?), number.parse().ok()?))
+        let (author, value) = pair.split_once(':')?;
+        let author = number("author", author).ok()?;
+        Some((ActorId(author), number("number", value).ok()?))
     };
     word.split(',')
-        .map(|part| pair(part).ok_or_else(|| Fault::Dependency(part.to_owned())))
+        .map(|part| pair(part).ok_or(part))
         .collect()
 }
 
-/// The verifier's answer, and that of policy and state.
-fn answer(word: &str) -> Result<(bool, Result<(), ApplyError>), Fault> {
+/// What stands behind the payload.
+#[derive(Default)]
+struct Said {
+    outcome: Option<Result<(), ApplyError>>,
+    unverified: bool,
+    signature: Option<Vec<u8>>,
+}
+
+impl Said {
+    /// With one word more, which says something new.
+    fn and(mut self, word: &&str) -> Result<Self, Fault> {
+        let again = if *word == "unverified" {
+            std::mem::replace(&mut self.unverified, true)
+        } else if let Some(digits) = word.strip_prefix("signature/") {
+            let signature = hex(digits).ok_or_else(|| Fault::Signature(digits.to_owned()))?;
+            self.signature.replace(signature).is_some()
+        } else {
+            self.outcome.replace(outcome(word)?).is_some()
+        };
+        match again {
+            true => Err(Fault::Twice((*word).to_owned())),
+            false => Ok(self),
+        }
+    }
+}
+
+/// The answer of policy and state.
+fn outcome(word: &str) -> Result<Result<(), ApplyError>, Fault> {
     let (outcome, detail) = match word.split_once('/') {
         Some((outcome, detail)) => (outcome, Some(detail)),
         None => (word, None),
     };
     Ok(match (outcome, detail) {
-        ("fits", None) => (true, Ok(())),
-        ("unverified", None) => (false, Ok(())),
-        ("malformed", None) => (true, Err(ApplyError::MalformedOp)),
-        ("unknown", Some(tag)) => (true, Err(ApplyError::UnknownOpTag(number("tag", tag)?))),
-        ("denied", None) => (true, Err(ApplyError::Denied)),
-        ("invalid", Some(text)) => (true, Err(ApplyError::Invalid(number("text number", text)?))),
+        ("fits", None) => Ok(()),
+        ("malformed", None) => Err(ApplyError::MalformedOp),
+        ("unknown", Some(tag)) => Err(ApplyError::UnknownOpTag(number("tag", tag)?)),
+        ("denied", None) => Err(ApplyError::Denied),
+        ("invalid", Some(text)) => Err(ApplyError::Invalid(number("text number", text)?)),
         _ => return Err(Fault::Answer(word.to_owned())),
     })
 }
@@ -224,10 +228,10 @@ mod tests {
     use super::*;
 
     /// The only row of a text.
-    fn one(text: &str) -> Entry {
+    fn one(text: &str) -> BatchRow {
         let offers = parse(text.as_bytes()).expect("a text that reads");
         match &offers[..] {
-            [Offer { entries, .. }] if entries.len() == 1 => entries[0].clone(),
+            [Offer { rows, .. }] if rows.len() == 1 => rows[0].clone(),
             _ => panic!("not one row: {offers:?}"),
         }
     }
@@ -235,7 +239,7 @@ mod tests {
     /// How many rows each batch of a text has.
     fn sizes(text: &str) -> Vec<usize> {
         let offers = parse(text.as_bytes()).expect("a text that reads");
-        offers.iter().map(|offer| offer.entries.len()).collect()
+        offers.iter().map(|offer| offer.rows.len()).collect()
     }
 
     /// The line that does not read, and what is said of it.
@@ -246,19 +250,19 @@ mod tests {
 
     #[test]
     fn a_row() {
-        let entry = one("1030 7 1 3  2:2,4:1  \"Schlauch = inner tube\"  # said twice\n");
+        let read = one("1030 7 1 3  2:2,4:1  \"Schlauch = inner tube\"  # said twice\n");
         let stamp = Timestamp {
             wall_time: 1030,
             logical_counter: 7,
             actor_id: ActorId(1),
         };
-        assert_eq!(entry.row.timestamp, stamp);
-        assert_eq!((entry.row.actor, entry.row.seq), (ActorId(1), 3));
-        assert_eq!(entry.row.deps, [(ActorId(2), 2), (ActorId(4), 1)]);
-        assert_eq!(entry.row.payload, b"Schlauch = inner tube");
-        assert!(entry.row.signature.is_empty());
-        assert!(entry.verified);
-        assert_eq!(entry.outcome, Ok(()));
+        assert_eq!(read.row.timestamp, stamp);
+        assert_eq!((read.row.actor, read.row.seq), (ActorId(1), 3));
+        assert_eq!(read.row.deps, [(ActorId(2), 2), (ActorId(4), 1)]);
+        assert_eq!(read.row.payload, b"Schlauch = inner tube");
+        assert!(read.row.signature.is_empty());
+        assert!(read.verified);
+        assert_eq!(read.outcome, Ok(()));
     }
 
     #[test]
@@ -285,9 +289,9 @@ mod tests {
             ("unverified", false, Ok(())),
         ];
         for (word, verified, outcome) in answers {
-            let entry = one(&format!("1 0 1 1 - x {word}"));
+            let read = one(&format!("1 0 1 1 - x {word}"));
             assert_eq!(
-                (entry.verified, entry.outcome),
+                (read.verified, read.outcome),
                 (verified, outcome),
                 "{word}"
             );
@@ -318,10 +322,10 @@ mod tests {
     #[test]
     fn largest_numbers() {
         let max = u64::MAX;
-        let entry = one(&format!("{max} {} {max} {max} {max}:{max} x", u32::MAX));
-        assert_eq!(entry.row.timestamp.wall_time, max);
-        assert_eq!(entry.row.timestamp.logical_counter, u32::MAX);
-        assert_eq!(entry.row.deps, [(ActorId(max), max)]);
+        let read = one(&format!("{max} {} {max} {max} {max}:{max} x", u32::MAX));
+        assert_eq!(read.row.timestamp.wall_time, max);
+        assert_eq!(read.row.timestamp.logical_counter, u32::MAX);
+        assert_eq!(read.row.deps, [(ActorId(max), max)]);
     }
 
     #[test]
@@ -365,13 +369,13 @@ mod tests {
 
     #[test]
     fn the_examples_read() {
-        assert_eq!(sizes(include_str!("../../../examples/desk-a.txt")), [3, 3]);
-        assert_eq!(sizes(include_str!("../../../examples/desk-b.txt")), [2, 2]);
+        assert_eq!(sizes(include_str!("../../../../examples/desk-a.txt")), [3, 3]);
+        assert_eq!(sizes(include_str!("../../../../examples/desk-b.txt")), [2, 2]);
     }
 
     #[test]
     fn the_rows_of_the_help_read() {
-        let help = include_str!("../help.txt").lines();
+        let help = include_str!("../../help.txt").lines();
         let rows: Vec<&str> = help.filter(|line| line.starts_with("    1")).collect();
         assert_eq!(sizes(&rows.join("\n")), [2]);
     }

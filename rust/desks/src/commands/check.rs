@@ -1,0 +1,30 @@
+//! `check STORE`: whether the file is whole and its store keeps the rules, and what it has.
+
+use std::path::Path;
+
+use crate::error::Error;
+use crate::store::load;
+use crate::table::{pairs, stamp};
+use crate::words::Words;
+use crate::Answer;
+
+pub fn run(words: Words) -> Result<Answer, Error> {
+    let [file] = words.exactly()?;
+    let file = Path::new(&file);
+    let store = load(file)?;
+    Ok(Answer::well(format!(
+        "{}: sound\n\
+         logged     {} rows of {}\n\
+         held       {} rows of 64\n\
+         clock      {}\n\
+         compacted  {}\n\
+         floor      {}\n",
+        file.display(),
+        store.log_len()?,
+        store.capacity(),
+        store.pending_len()?,
+        pairs(&store.clock()?.entries()?),
+        pairs(&store.compacted()?.entries()?),
+        store.floor()?.map_or("-".to_owned(), stamp),
+    )))
+}

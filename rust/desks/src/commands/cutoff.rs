@@ -1,0 +1,19 @@
+//! `cutoff STORE FRONTIER...`: the latest stamp that is safe to compact to.
+
+use crate::error::Error;
+use crate::frontier::frontier;
+use crate::store::load;
+use crate::table::{pairs, stamp};
+use crate::words::Words;
+use crate::Answer;
+
+pub fn run(words: Words) -> Result<Answer, Error> {
+    let (file, clocks) = words.one_and_more()?;
+    let frontier = frontier(&clocks)?;
+    let cutoff = load(&file)?.cutoff(&frontier)?;
+    let all = format!("Frontier: {}\n", pairs(&frontier.entries()?));
+    Ok(Answer::well(match cutoff {
+        Some(cutoff) => format!("{all}Cutoff: {}\n", stamp(cutoff)),
+        None => format!("{all}No cutoff: nothing is safe to compact.\n"),
+    }))
+}

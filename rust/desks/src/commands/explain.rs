@@ -1,0 +1,35 @@
+//! `explain [NUMBER]`: what a refusal means and what to do about it.
+
+use cuwelfra::{Explained, Refusal};
+
+use crate::error::Error;
+use crate::text::number;
+use crate::words::Words;
+use crate::Answer;
+
+pub fn run(words: Words) -> Result<Answer, Error> {
+    let usage = words.usage();
+    let explained: Vec<String> = match &words.rest()?[..] {
+        [] => (1..).map_while(Refusal::explain).map(shown).collect(),
+        [word] => {
+            let number = word.to_str().and_then(|word| number("", word).ok());
+            let found = number.and_then(Refusal::explain).ok_or(Error::Word {
+                word: word.clone(),
+                wanted: "refusal; ./run explain lists them",
+            });
+            vec![shown(found?)]
+        }
+        _ => return Err(usage),
+    };
+    Ok(Answer::well(explained.join("\n")))
+}
+
+fn shown(explained: &Explained) -> String {
+    let Explained {
+        number,
+        word,
+        meaning,
+        advice,
+    } = explained;
+    format!("{number}, {word}\n    {meaning}\n    {advice}\n")
+}

@@ -1,0 +1,37 @@
+//! `floor STORE [STAMP]`: the floor, and raising it.
+
+use std::path::Path;
+
+use cuwelfra::Store;
+
+use crate::error::Error;
+use crate::store::{load, Change};
+use crate::table;
+use crate::words::{stamp, Words};
+use crate::Answer;
+
+pub fn run(words: Words) -> Result<Answer, Error> {
+    let usage = words.usage();
+    match &words.rest()?[..] {
+        [file] => shown(&load(Path::new(file))?),
+        [file, word] => {
+            let floor = stamp(word.clone())?;
+            let mut change = Change::of_existing(file.into())?;
+            change.store.set_floor(&floor)?;
+            let answer = shown(&change.store);
+            change.save()?;
+            answer
+        }
+        _ => Err(usage),
+    }
+}
+
+fn shown(store: &Store) -> Result<Answer, Error> {
+    Ok(Answer::well(match store.floor()? {
+        Some(floor) => format!(
+            "Floor: {}; rows with stamps at or below it are logged as stale.\n",
+            table::stamp(floor)
+        ),
+        None => "No floor.\n".to_owned(),
+    }))
+}

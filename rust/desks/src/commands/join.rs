@@ -1,0 +1,34 @@
+//! `join STORE FILE...`: offers the files' batches to the store.
+
+use crate::calls;
+use crate::desk::Desk;
+use crate::error::Error;
+use crate::store::Change;
+use crate::words::Words;
+use crate::Answer;
+
+pub fn run(words: Words) -> Result<Answer, Error> {
+    let (file, files) = words.one_and_more()?;
+    let shown = file.display().to_string();
+    let desks = Desk::read_all(files)?;
+    let mut change = Change::begin(file)?;
+    let before = change.store.log_len()?;
+    let told = calls::offer(&mut change.store, desks.iter(), calls::latest(&desks));
+    let (logged, held) = (change.store.log_len()?, change.store.pending_len()?);
+    let accepted = told.iter().any(|told| told.answer.is_ok());
+    let written = if accepted || change.new {
+        change.save()?;
+        "written"
+    } else {
+        "left as it was"
+    };
+    let text = format!(
+        "{}\n{shown}: {logged} rows logged, {} of them now; {held} held; {written}.\n",
+        calls::reports(&told),
+        logged - before
+    );
+    Ok(Answer {
+        text,
+        well: calls::all_accepted(&told),
+    })
+}

@@ -1,0 +1,37 @@
+//! Batches as text that a person can write, one row a line:
+//!
+//! ```text
+//! WALL COUNTER AUTHOR SEQUENCE DEPENDENCIES PAYLOAD [ANSWER] [unverified] [signature/HEX]
+//!
+//! time 2000
+//! 1030 0 1 3  2:2,4:1  "Schlauch = inner tube"           # a comment
+//! 1050 0 1 4  -        Kette=chain              denied
+//! ---
+//! ```
+//!
+//! - WALL and COUNTER are the stamp, whose author is AUTHOR; where it is another's, COUNTER/AUTHOR names that one.
+//! - DEPENDENCIES are `AUTHOR:NUMBER`, authors rising, with commas between and no blanks, or `-` for none.
+//! - PAYLOAD is a bare word, or text between double quotes, in which `\"`, `\\` and `\xHH` are a double quote, a
+//!   backslash and the byte of two hexadecimal digits.
+//! - ANSWER is what policy and state say: `fits` (also where it is left out), `malformed`, `unknown/TAG`, `denied` or
+//!   `invalid/NUMBER`. `unverified` marks a row whose signature is bad. Without `signature/HEX` it is empty.
+//!
+//! A comment goes from `#`, where a word could begin, to the end of the line. A blank line or `---` ends a batch; a
+//! line with only a comment does not, and a batch without rows is left out. `time MS` stands before a batch's rows and
+//! is the time of its call and of the calls after it in this file.
+
+mod read;
+mod words;
+mod write;
+
+use cuwelfra::BatchRow;
+
+pub use read::{number, pairs, parse, stamp, Fault, Unreadable};
+pub use write::{answer, row, unprinted, write};
+
+/// The rows of a batch call, and its time where the text says one.
+#[derive(Clone, Debug, PartialEq, Eq)]
+pub struct Offer {
+    pub time_ms: Option<u64>,
+    pub rows: Vec<BatchRow>,
+}
