@@ -19,7 +19,7 @@ use std::fs::{self, File, OpenOptions};
 use std::io::{self, Read, Write};
 use std::path::{Path, PathBuf};
 
-use crate::words::word;
+use crate::words::{part, word};
 use crate::{Refusal, Store, HEAD_BYTES, HELD_BYTES, MAX_LOGGED, SLOT_BYTES};
 
 const MAGIC: &[u8; 8] = b"cuwstore";
@@ -278,15 +278,17 @@ fn folder(path: &Path) -> &Path {
 fn encode(store: &Store) -> Result<Vec<u8>, FileError> {
     store.check()?;
     let (log, held, head) = store.areas();
-    let slots = (log.len() / SLOT_BYTES).min(MAX_LOGGED);
     let parts = [
-        &log[..store.log_len()? * SLOT_BYTES],
-        &held[..store.pending_len()? * SLOT_BYTES],
-        &head[..HEAD_BYTES],
+        part(log, 0, (store.log_len()? * SLOT_BYTES) as u64)?,
+        part(held, 0, (store.pending_len()? * SLOT_BYTES) as u64)?,
+        part(head, 0, HEAD_BYTES as u64)?,
     ];
     let lengths = parts.map(|part| part.len() as u64);
     let mut bytes = MAGIC.to_vec();
-    for number in [VERSION, slots as u64].into_iter().chain(lengths) {
+    for number in [VERSION, store.capacity() as u64]
+        .into_iter()
+        .chain(lengths)
+    {
         bytes.extend(number.to_be_bytes());
     }
     for part in parts {
@@ -298,20 +300,20 @@ fn encode(store: &Store) -> Result<Vec<u8>, FileError> {
 
 fn decode(bytes: &[u8]) -> Result<Store, FileError> {
     let header = Header::read(bytes)?;
-    let body = header.body(bytes)?;
-    let (log, rest) = body.split_at(header.log);
-    let (held, head) = rest.split_at(header.held);
+    header.check_end(bytes)?;
+    let (log, held) = (header.log, header.held);
+    let area = |at: usize, len: usize| part(bytes, HEADER_BYTES + at, len as u64);
     let store = Store::from_areas(
-        filled(log, header.slots * SLOT_BYTES),
-        filled(held, HELD_BYTES),
-        head.to_vec(),
+        filled(area(0, log)?, header.slots * SLOT_BYTES),
+        filled(area(log, held)?, HELD_BYTES),
+        area(log + held, HEAD_BYTES)?.to_vec(),
     );
     store.check()?;
     let counted = (
         store.log_len()? * SLOT_BYTES,
         store.pending_len()? * SLOT_BYTES,
     );
-    match counted == (header.log, header.held) {
+    match counted == (log, held) {
         true => Ok(store),
         false => Err(FileError::Counts),
     }
@@ -357,8 +359,8 @@ impl Header {
         Ok(Self { slots, log, held })
     }
 
-    /// What stands between the header and the checksum, which are as they must be.
-    fn body<'a>(&self, bytes: &'a [u8]) -> Result<&'a [u8], FileError> {
+    /// The file ends behind its checksum, which is that of the bytes before it.
+    fn check_end(&self, bytes: &[u8]) -> Result<(), FileError> {
         let end = HEADER_BYTES + self.log + self.held + HEAD_BYTES;
         let expected = end + CHECKSUM_BYTES;
         if bytes.len() > expected {
@@ -370,9 +372,9 @@ impl Header {
                 expected,
             });
         }
-        let (written, computed) = (word(bytes, end), crc64(&bytes[..end]));
+        let (written, computed) = (word(bytes, end), crc64(part(bytes, 0, end as u64)?));
         match written == computed {
-            true => Ok(&bytes[HEADER_BYTES..end]),
+            true => Ok(()),
             false => Err(FileError::Checksum { written, computed }),
         }
     }
@@ -397,6 +399,7 @@ const POLYNOMIAL: u64 = 0xc96c_5795_d787_0f42;
 /// What each value of a byte adds to a checksum.
 const TABLE: [u64; 256] = table();
 
+#[allow(clippy::indexing_slicing)] // The index is below 256.
 const fn table() -> [u64; 256] {
     let mut table = [0; 256];
     let mut i = 0;
@@ -415,6 +418,7 @@ const fn table() -> [u64; 256] {
 }
 
 /// CRC-64/XZ.
+#[allow(clippy::indexing_slicing)] // The index is a byte.
 fn crc64(bytes: &[u8]) -> u64 {
     let step = |crc: u64, byte: &u8| TABLE[usize::from(crc as u8 ^ byte)] ^ crc >> 8;
     !bytes.iter().fold(!0, step)

@@ -57,8 +57,9 @@ pub fn reports(told: &[Told]) -> String {
         if i == 0 {
             text += "\nRefused, with nothing of the batch taken:\n\n";
         }
-        let advice = refusal.advice();
-        text += &format!("{batch}: {refusal}\n    {}\n    {advice}\n", refusal.meaning());
+        text += &format!("{batch}: {refusal}\n");
+        text += &table::indented(refusal.meaning());
+        text += &table::indented(refusal.advice());
     }
     text
 }

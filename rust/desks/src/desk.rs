@@ -36,7 +36,10 @@ impl Desk {
 
     /// Reads one file after the other.
     pub fn read_all(files: Vec<OsString>) -> Result<Vec<Self>, Error> {
-        files.iter().map(|file| Self::read(Path::new(file))).collect()
+        files
+            .iter()
+            .map(|file| Self::read(Path::new(file)))
+            .collect()
     }
 
     /// What a batch is called, from 0.

@@ -34,7 +34,7 @@ fn clock(word: &OsString) -> Result<VectorClock, Error> {
     let Some(pairs) = pairs else {
         return Ok(store::load(Path::new(word))?.clock()?);
     };
-    if pairs.windows(2).any(|pair| pair[0].0 >= pair[1].0) {
+    if !pairs.is_sorted_by(|one, next| one.0 < next.0) {
         return Err(Error::Word {
             word: word.clone(),
             wanted: "frontier: its authors do not rise",

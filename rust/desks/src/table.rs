@@ -177,6 +177,14 @@ pub fn pairs(pairs: &[(ActorId, u64)]) -> String {
     or_dash(pairs.join(","))
 }
 
+/// So many of something that has a plural in s.
+pub fn counted(count: usize, thing: &str) -> String {
+    match count {
+        1 => format!("1 {thing}"),
+        _ => format!("{count} {thing}s"),
+    }
+}
+
 /// A stamp in one word.
 pub fn stamp(stamp: Timestamp) -> String {
     let Timestamp {
@@ -202,4 +210,21 @@ fn or_dash(list: String) -> String {
         return "-".to_owned();
     }
     list
+}
+
+/// Lines of at most 116 letters with four blanks before them.
+pub fn indented(text: &str) -> String {
+    let mut lines = Vec::new();
+    let mut line = String::new();
+    for word in text.split_whitespace() {
+        if width(&line) + width(word) >= 116 {
+            lines.push(std::mem::take(&mut line));
+        }
+        if !line.is_empty() {
+            line.push(' ');
+        }
+        line += word;
+    }
+    lines.push(line);
+    lines.iter().map(|line| format!("    {line}\n")).collect()
 }

@@ -101,7 +101,10 @@ macro_rules! golden {
 #[test]
 fn the_example() {
     let folder = Folder::new("example");
-    golden!("example.txt", folder.well("example sub/example.store DESK_A DESK_B"));
+    golden!(
+        "example.txt",
+        folder.well("example sub/example.store DESK_A DESK_B")
+    );
     // It is made anew each time.
     folder.write("sub/example.store", "damaged");
     folder.well("example sub/example.store DESK_A DESK_B");
@@ -124,8 +127,14 @@ fn a_store_is_left_where_every_batch_is_refused() {
     let before = folder.read("a.store");
     folder.write("bad.txt", "5 0 9 0 - x\n\n5 0 9 1 - x unverified");
     let told = folder.refused("join a.store bad.txt");
-    assert!(told.contains("bad.txt 1: refusal 5, zero sequence: author 9, sequence 0\n"), "{told}");
-    assert!(told.contains("bad.txt 2: refusal 12, bad signature: author 9, sequence 1\n"), "{told}");
+    assert!(
+        told.contains("bad.txt 1: refusal 5, zero sequence: author 9, sequence 0\n"),
+        "{told}"
+    );
+    assert!(
+        told.contains("bad.txt 2: refusal 12, bad signature: author 9, sequence 1\n"),
+        "{told}"
+    );
     assert!(told.ends_with("held; left as it was.\n"), "{told}");
     assert_eq!(folder.read("a.store"), before);
 }
@@ -133,16 +142,28 @@ fn a_store_is_left_where_every_batch_is_refused() {
 #[test]
 fn a_refused_batch_lets_the_others_go_on() {
     let folder = Folder::new("others");
-    folder.write("rows.txt", "5 0 9 1 - x\n---\n6 0 9 0 - y\n---\n7 0 9 2 - z\n");
+    folder.write(
+        "rows.txt",
+        "5 0 9 1 - x\n---\n6 0 9 0 - y\n---\n7 0 9 2 - z\n",
+    );
     let told = folder.refused("join new.store rows.txt");
-    assert!(told.ends_with("new.store: 2 rows logged, 2 of them now; 0 held; written.\n"), "{told}");
+    assert!(
+        told.ends_with("new.store: 2 rows logged, 2 of them now; 0 held; written.\n"),
+        "{told}"
+    );
 }
 
 #[test]
 fn a_delta_and_its_text() {
     let folder = Folder::with_stores("delta");
-    golden!("delta.txt", folder.well("delta ab.store a.store --rows 3 --out out.txt"));
-    golden!("delta-out.txt", String::from_utf8_lossy(&folder.read("out.txt")).into_owned());
+    golden!(
+        "delta.txt",
+        folder.well("delta ab.store a.store --rows 3 --out out.txt")
+    );
+    golden!(
+        "delta-out.txt",
+        String::from_utf8_lossy(&folder.read("out.txt")).into_owned()
+    );
     folder.well("join a.store out.txt");
     let log = |file: &str| folder.well(&format!("log {file}"));
     assert_eq!(log("a.store"), log("ab.store"));
@@ -160,7 +181,10 @@ fn a_delta_that_is_not_all() {
     folder.write("other.txt", "1 0 7 1 - x");
     folder.well("join other.store other.txt");
     let told = folder.refused("delta ab.store other.store");
-    assert!(told.contains("\nThese are not all: ab.store has compacted rows that other.store lacks."), "{told}");
+    assert!(
+        told.contains("\nThese are not all: ab.store has compacted rows that other.store lacks."),
+        "{told}"
+    );
 }
 
 #[test]
@@ -169,15 +193,30 @@ fn cutoffs() {
     let cutoff = |frontier: &str| folder.well(&format!("cutoff ab.store {frontier}"));
     assert_eq!(cutoff("1:3,2:2"), "Frontier: 1:3,2:2\nCutoff: 1030/0/1\n");
     // Of two peers the least numbers count, and an author that one does not have counts as 0.
-    assert_eq!(cutoff("1:6,2:4 1:1,2:2,3:9"), "Frontier: 1:1,2:2\nCutoff: 1005/0/2\n");
-    assert_eq!(cutoff("2:4 1:6"), "Frontier: -\nNo cutoff: nothing is safe to compact.\n");
-    assert_eq!(cutoff("-"), "Frontier: -\nNo cutoff: nothing is safe to compact.\n");
+    assert_eq!(
+        cutoff("1:6,2:4 1:1,2:2,3:9"),
+        "Frontier: 1:1,2:2\nCutoff: 1005/0/2\n"
+    );
+    assert_eq!(
+        cutoff("2:4 1:6"),
+        "Frontier: -\nNo cutoff: nothing is safe to compact.\n"
+    );
+    assert_eq!(
+        cutoff("-"),
+        "Frontier: -\nNo cutoff: nothing is safe to compact.\n"
+    );
     // Desk A alone has logged 1:1 and 1:2.
-    assert_eq!(cutoff("a.store 1:9,2:9"), "Frontier: 1:2\nCutoff: 1000/0/1\n");
+    assert_eq!(
+        cutoff("a.store 1:9,2:9"),
+        "Frontier: 1:2\nCutoff: 1000/0/1\n"
+    );
     let told = folder.fails("cutoff ab.store 2:1,1:1");
     assert!(told.contains("authors do not rise"), "{told}");
     let told = folder.fails("cutoff ab.store absent.store");
-    assert!(told.starts_with("absent.store: cannot open the file: "), "{told}");
+    assert!(
+        told.starts_with("absent.store: cannot open the file: "),
+        "{told}"
+    );
 }
 
 #[test]
@@ -187,7 +226,10 @@ fn compacting_and_the_floor() {
     let start = "ab.store: 5 rows at or below 1030/0/1 removed, 5 left; written.\n";
     assert!(told.starts_with(start), "{told}");
     let told = folder.well("compact ab.store 1040/0/2");
-    assert!(told.starts_with("ab.store: 1 rows at or below 1040/0/2 removed, 4 left"), "{told}");
+    assert!(
+        told.starts_with("ab.store: 1 row at or below 1040/0/2 removed, 4 left"),
+        "{told}"
+    );
     let before = folder.read("ab.store");
     let none = "No cutoff: nothing is safe to compact.\n";
     assert_eq!(folder.well("compact ab.store --cutoff -"), none);
@@ -208,14 +250,22 @@ fn compacting_and_the_floor() {
 fn explaining() {
     let folder = Folder::new("explain");
     let one = folder.well("explain 13");
-    assert!(one.starts_with("13, conflict\n    "), "{one}");
+    assert!(
+        one.starts_with("13, conflict: author, sequence\n    "),
+        "{one}"
+    );
     let all = folder.well("explain");
-    let titles = all.lines().filter(|line| line.starts_with(|first: char| first.is_ascii_digit()));
+    let titles = all
+        .lines()
+        .filter(|line| line.starts_with(|first: char| first.is_ascii_digit()));
     assert_eq!(titles.count(), 25);
     assert!(all.contains(&one));
     for none in ["0", "26", "x", "+1"] {
         let told = folder.fails(&format!("explain {none}"));
-        assert_eq!(told, format!("`{none}` is no refusal; ./run explain lists them"));
+        assert_eq!(
+            told,
+            format!("`{none}` is no refusal; ./run explain lists them")
+        );
     }
 }
 
@@ -223,12 +273,18 @@ fn explaining() {
 fn packing_and_unpacking() {
     let folder = Folder::new("pack");
     let packed = folder.well("pack DESK_B out.d");
-    assert_eq!(packed, "out.d/desk-b-01.batch: 2 rows, 86 bytes\nout.d/desk-b-02.batch: 4 rows, 148 bytes\n");
+    assert_eq!(
+        packed,
+        "out.d/desk-b-01.batch: 2 rows, 69 bytes\nout.d/desk-b-02.batch: 4 rows, 123 bytes\n"
+    );
     let text = folder.well("unpack out.d/desk-b-01.batch out.d/desk-b-02.batch");
     golden!("unpack.txt", text.clone());
     folder.write("again.txt", text);
     let offers = |file: &str| Desk::read(&folder.0.join(file)).expect("a desk").offers;
-    assert_eq!(offers("again.txt"), Desk::read(DESK_B.as_ref()).expect("desk B").offers);
+    assert_eq!(
+        offers("again.txt"),
+        Desk::read(DESK_B.as_ref()).expect("desk B").offers
+    );
     assert_eq!(offers("out.d/desk-b-02.batch"), offers("again.txt")[1..]);
 
     // A file of batch bytes is joined as its text is.
@@ -238,11 +294,17 @@ fn packing_and_unpacking() {
 
     // One batch goes into one file, and no file is written over.
     folder.write("one.txt", "1 0 1 1 - x");
-    assert_eq!(folder.well("pack one.txt one.batch"), "one.batch: 1 rows, 13 bytes\n");
+    assert_eq!(
+        folder.well("pack one.txt one.batch"),
+        "one.batch: 1 row, 13 bytes\n"
+    );
     let told = folder.fails("pack one.txt one.batch");
     assert!(told.starts_with("one.batch: cannot write it: "), "{told}");
     folder.write("none.txt", "# nothing\n");
-    assert_eq!(folder.fails("pack none.txt none.batch"), "none.txt: no row in it");
+    assert_eq!(
+        folder.fails("pack none.txt none.batch"),
+        "none.txt: no row in it"
+    );
 }
 
 #[test]
@@ -250,14 +312,23 @@ fn batches_that_cannot_be_bytes() {
     let folder = Folder::new("unpackable");
     folder.write("deps.txt", "1 0 1 1 - x\n---\n1 0 1 1 3:1,2:1 x");
     let told = folder.fails("pack deps.txt out.d");
-    assert!(told.starts_with("deps.txt 2: refusal 3, unreadable; "), "{told}");
+    assert!(
+        told.starts_with("deps.txt 2: refusal 3, unreadable; "),
+        "{told}"
+    );
     assert!(!folder.0.join("out.d").exists());
     folder.write("rows.txt", "1 0 1 1 - x\n".repeat(65));
     let told = folder.fails("pack rows.txt one.batch");
-    assert!(told.starts_with("rows.txt 1: refusal 4, over capacity; "), "{told}");
+    assert!(
+        told.starts_with("rows.txt 1: refusal 4, over capacity; "),
+        "{told}"
+    );
     folder.write("cut.batch", [1, 5, 0]);
     let told = folder.fails("unpack cut.batch");
-    assert!(told.starts_with("cut.batch: refusal 3, unreadable; "), "{told}");
+    assert!(
+        told.starts_with("cut.batch: refusal 3, unreadable; "),
+        "{told}"
+    );
     assert_eq!(folder.fails("join new.store cut.batch"), told);
     assert!(!folder.0.join("new.store").exists());
 }
@@ -303,7 +374,9 @@ fn a_damaged_store_is_refused_and_left() {
     }
     folder.write("bad.store", "# a text");
     for line in READERS {
-        assert!(folder.fails(line).starts_with("bad.store: not a store file: "));
+        assert!(folder
+            .fails(line)
+            .starts_with("bad.store: not a store file: "));
     }
 }
 
@@ -312,9 +385,16 @@ fn a_temporary_file_stops_every_change() {
     let folder = Folder::with_stores("busy");
     folder.write("ab.store.tmp", "");
     let before = folder.read("ab.store");
-    for line in ["join ab.store DESK_A", "compact ab.store 1/0/1", "floor ab.store 1/0/1"] {
+    for line in [
+        "join ab.store DESK_A",
+        "compact ab.store 1/0/1",
+        "floor ab.store 1/0/1",
+    ] {
         let told = folder.fails(line);
-        assert!(told.starts_with("ab.store: ") && told.contains("ab.store.tmp is there"), "{told}");
+        assert!(
+            told.starts_with("ab.store: ") && told.contains("ab.store.tmp is there"),
+            "{told}"
+        );
         assert_eq!(folder.read("ab.store"), before);
         assert!(folder.0.join("ab.store.tmp").exists());
     }
@@ -325,11 +405,22 @@ fn a_temporary_file_stops_every_change() {
 fn a_store_that_is_not_there() {
     let folder = Folder::new("absent");
     for line in ["compact no.store 1/0/1", "floor no.store 1/0/1"] {
-        assert_eq!(folder.fails(line), "no.store: no such file; ./run join makes one");
+        assert_eq!(
+            folder.fails(line),
+            "no.store: no such file; ./run join makes one"
+        );
     }
-    for line in ["log no.store", "held no.store", "check no.store", "floor no.store"] {
+    for line in [
+        "log no.store",
+        "held no.store",
+        "check no.store",
+        "floor no.store",
+    ] {
         let told = folder.fails(line);
-        assert!(told.starts_with("no.store: cannot open the file: "), "{told}");
+        assert!(
+            told.starts_with("no.store: cannot open the file: "),
+            "{told}"
+        );
     }
     assert_eq!(fs::read_dir(&folder.0).expect("a folder").count(), 0);
 }
@@ -345,11 +436,26 @@ fn wrong_words() {
         ("log", "write ./run log STORE"),
         ("log a.store ab.store", "write ./run log STORE"),
         ("log --all", "no option --all; --help lists them"),
-        ("delta a.store ab.store --rows", "write ./run delta FROM TO [--rows N] [--bytes N] [--out FILE]"),
-        ("delta a.store ab.store --rows many", "`many` is no whole number below 2^64"),
-        ("compact a.store", "write ./run compact STORE STAMP|--cutoff FRONTIER..."),
-        ("compact a.store 1/2", "`1/2` is no stamp, which is written WALL/COUNTER/AUTHOR"),
-        ("floor a.store 1/4294967296/1", "`1/4294967296/1` is no stamp, which is written WALL/COUNTER/AUTHOR"),
+        (
+            "delta a.store ab.store --rows",
+            "write ./run delta FROM TO [--rows N] [--bytes N] [--out FILE]",
+        ),
+        (
+            "delta a.store ab.store --rows many",
+            "`many` is no whole number below 2^64",
+        ),
+        (
+            "compact a.store",
+            "write ./run compact STORE STAMP|--cutoff FRONTIER...",
+        ),
+        (
+            "compact a.store 1/2",
+            "`1/2` is no stamp, which is written WALL/COUNTER/AUTHOR",
+        ),
+        (
+            "floor a.store 1/4294967296/1",
+            "`1/4294967296/1` is no stamp, which is written WALL/COUNTER/AUTHOR",
+        ),
         ("floor", "write ./run floor STORE [STAMP]"),
         ("cutoff a.store", "write ./run cutoff STORE FRONTIER..."),
         ("explain 1 2", "write ./run explain [NUMBER]"),

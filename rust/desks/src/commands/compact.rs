@@ -42,7 +42,8 @@ fn compact(mut change: Change, cutoff: &Timestamp) -> Result<Answer, Error> {
     change.save()?;
     let cutoff = table::stamp(*cutoff);
     Ok(Answer::well(format!(
-        "{file}: {removed} rows at or below {cutoff} removed, {left} left; written.\n\
-         Where such rows may still come, raise the floor, and they are logged as stale: ./run floor {file} {cutoff}\n"
+        "{file}: {} at or below {cutoff} removed, {left} left; written.\n\
+         Where such rows may still come, raise the floor, and they are logged as stale: ./run floor {file} {cutoff}\n",
+        table::counted(removed, "row")
     )))
 }

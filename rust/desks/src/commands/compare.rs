@@ -6,7 +6,7 @@ use crate::calls::{self, Told};
 use crate::desk::Desk;
 use crate::error::Error;
 use crate::store::View;
-use crate::table::pairs;
+use crate::table::{counted, pairs};
 use crate::text;
 use crate::words::Words;
 use crate::Answer;
@@ -75,8 +75,8 @@ pub fn verdict(differences: &[String], view: &View) -> String {
         return format!("The two orders differ:\n{}\n", differences.join("\n"));
     }
     format!(
-        "Equal in both orders: the logs ({} rows), the held rows ({}) and the clocks.\n",
-        view.log.len(),
+        "Equal in both orders of files: the logs ({}), the held rows ({}) and the clocks.\n",
+        counted(view.log.len(), "row"),
         view.held.len()
     )
 }
@@ -91,7 +91,9 @@ pub fn differences(first: &View, second: &View) -> Vec<String> {
     ));
     if first.clock != second.clock {
         let (first, second) = (pairs(&first.clock), pairs(&second.clock));
-        differences.push(format!("clock: {first} in the first, {second} in the second"));
+        differences.push(format!(
+            "clock: {first} in the first, {second} in the second"
+        ));
     }
     differences
 }

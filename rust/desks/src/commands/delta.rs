@@ -7,7 +7,7 @@ use cuwelfra::{BatchRow, Row, MAX_BATCH};
 use crate::desk::write_new;
 use crate::error::Error;
 use crate::store::load;
-use crate::table;
+use crate::table::{self, counted};
 use crate::text::{self, Offer};
 use crate::words::Words;
 use crate::Answer;
@@ -23,7 +23,11 @@ pub fn run(mut words: Words) -> Result<Answer, Error> {
     let (from, to) = (from.display(), to.display());
 
     let rows: usize = chunks.iter().map(Vec::len).sum();
-    let mut text = format!("{to} lacks {rows} rows of {from}, in {} chunks.\n", chunks.len());
+    let mut text = format!(
+        "{to} lacks {} of {from}, in {}.\n",
+        counted(rows, "row"),
+        counted(chunks.len(), "chunk")
+    );
     if rows > 0 {
         text += &format!("\n{}", table::delta(&chunks));
     }
@@ -35,22 +39,32 @@ pub fn run(mut words: Words) -> Result<Answer, Error> {
     }
     if let Some(out) = out {
         let shown = out.display().to_string();
-        write_new(out, text::write(&offers(chunks)).as_bytes())?;
-        text += &format!("\nWritten to {shown}, a batch for each chunk.\n");
+        let offers = offers(&chunks);
+        write_new(out, text::write(&offers).as_bytes())?;
+        text += &format!("\nWritten to {shown}: {}.\n", batches(offers.len()));
     }
     Ok(Answer { text, well: whole })
 }
 
-/// A batch for each chunk. A log keeps no answers of policy and state: each row fits.
-fn offers(chunks: Vec<Vec<Row>>) -> Vec<Offer> {
-    let fits = |row| BatchRow {
-        row,
+/// A batch for each chunk; more, where a chunk has more rows than a batch takes. A log keeps no answers of policy and
+/// state: each row fits.
+fn offers(chunks: &[Vec<Row>]) -> Vec<Offer> {
+    let fits = |row: &Row| BatchRow {
+        row: row.clone(),
         verified: true,
         outcome: Ok(()),
     };
-    let offer = |rows: Vec<Row>| Offer {
+    let offer = |rows: &[Row]| Offer {
         time_ms: None,
-        rows: rows.into_iter().map(fits).collect(),
+        rows: rows.iter().map(fits).collect(),
     };
-    chunks.into_iter().map(offer).collect()
+    let batches = chunks.iter().flat_map(|chunk| chunk.chunks(MAX_BATCH));
+    batches.map(offer).collect()
+}
+
+fn batches(count: usize) -> String {
+    match count {
+        1 => "1 batch".to_owned(),
+        _ => format!("{count} batches"),
+    }
 }

@@ -9,7 +9,10 @@ use crate::Answer;
 
 pub fn run(words: Words) -> Result<Answer, Error> {
     let (file, files) = words.one_and_more()?;
-    let names: Vec<String> = files.iter().map(|file| file.display().to_string()).collect();
+    let names: Vec<String> = files
+        .iter()
+        .map(|file| file.display().to_string())
+        .collect();
     let desks = Desk::read_all(files)?;
     let (joined, reverse) = both_orders(&desks)?;
     if let Some(folder) = file.parent() {

@@ -3,6 +3,7 @@
 use cuwelfra::{Explained, Refusal};
 
 use crate::error::Error;
+use crate::table::indented;
 use crate::text::number;
 use crate::words::Words;
 use crate::Answer;
@@ -28,8 +29,14 @@ fn shown(explained: &Explained) -> String {
     let Explained {
         number,
         word,
+        values,
         meaning,
         advice,
     } = explained;
-    format!("{number}, {word}\n    {meaning}\n    {advice}\n")
+    let values = match values.is_empty() {
+        true => String::new(),
+        false => format!(": {}", values.join(", ")),
+    };
+    let (meaning, advice) = (indented(meaning), indented(advice));
+    format!("{number}, {word}{values}\n{meaning}{advice}")
 }

@@ -4,6 +4,7 @@ use crate::calls;
 use crate::desk::Desk;
 use crate::error::Error;
 use crate::store::Change;
+use crate::table::counted;
 use crate::words::Words;
 use crate::Answer;
 
@@ -23,8 +24,9 @@ pub fn run(words: Words) -> Result<Answer, Error> {
         "left as it was"
     };
     let text = format!(
-        "{}\n{shown}: {logged} rows logged, {} of them now; {held} held; {written}.\n",
+        "{}\n{shown}: {} logged, {} of them now; {held} held; {written}.\n",
         calls::reports(&told),
+        counted(logged, "row"),
         logged - before
     );
     Ok(Answer {

@@ -40,11 +40,7 @@ const COMMANDS: [Command; 14] = [
         delta::run,
     ),
     Command("cutoff", "STORE FRONTIER...", cutoff::run),
-    Command(
-        "compact",
-        "STORE STAMP|--cutoff FRONTIER...",
-        compact::run,
-    ),
+    Command("compact", "STORE STAMP|--cutoff FRONTIER...", compact::run),
     Command("floor", "STORE [STAMP]", floor::run),
     Command("explain", "[NUMBER]", explain::run),
     Command("pack", "FILE OUT", pack::run),

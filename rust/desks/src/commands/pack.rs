@@ -6,6 +6,7 @@ use cuwelfra::Batch;
 
 use crate::desk::{self, make_folder, write_new, Desk};
 use crate::error::Error;
+use crate::table::counted;
 use crate::words::Words;
 use crate::Answer;
 
@@ -21,8 +22,8 @@ pub fn run(words: Words) -> Result<Answer, Error> {
     let batches: Vec<Batch> = batches.collect::<Result<_, _>>()?;
     let mut text = String::new();
     for (target, batch) in targets(&file, out, batches.len())?.into_iter().zip(batches) {
-        let (rows, bytes) = (batch.len(), batch.bytes());
-        text += &format!("{}: {rows} rows, {} bytes\n", target.display(), bytes.len());
+        let (rows, bytes) = (counted(batch.len(), "row"), batch.bytes());
+        text += &format!("{}: {rows}, {} bytes\n", target.display(), bytes.len());
         write_new(target, bytes)?;
     }
     Ok(Answer::well(text))

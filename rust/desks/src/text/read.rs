@@ -176,9 +176,7 @@ pub fn pairs(word: &str) -> Result<Vec<(ActorId, u64)>, &str> {
         let author = number("author", author).ok()?;
         Some((ActorId(author), number("number", value).ok()?))
     };
-    word.split(',')
-        .map(|part| pair(part).ok_or(part))
-        .collect()
+    word.split(',').map(|part| pair(part).ok_or(part)).collect()
 }
 
 /// What stands behind the payload.
@@ -278,6 +276,30 @@ mod tests {
     }
 
     #[test]
+    fn escapes() {
+        let payload = |word: &str| one(&format!("1 0 1 1 - \"{word}\"")).row.payload;
+        assert_eq!(payload(r#"a \"b\" c"#), br#"a "b" c"#);
+        assert_eq!(payload(r"\\"), br"\");
+        assert_eq!(payload(r"\\\\x"), br"\\x");
+        assert_eq!(payload(r#"\\\""#), br#"\""#);
+        assert_eq!(payload(r"\x00\xfF1"), b"\x00\xff1");
+        // A bare word has none.
+        assert_eq!(one(r"1 0 1 1 - a\b").row.payload, br"a\b");
+    }
+
+    #[test]
+    fn stamps_and_signatures() {
+        let read = one("1 2/9 1 1 - x unverified signature/00fF denied");
+        assert_eq!(read.row.timestamp.actor_id, ActorId(9));
+        assert_eq!(read.row.actor, ActorId(1));
+        assert_eq!(read.row.signature, [0, 0xff]);
+        assert!(!read.verified);
+        assert_eq!(read.outcome, Err(ApplyError::Denied));
+        assert_eq!(one("1 2 1 1 - x signature/").row.signature, [0; 0]);
+        assert_eq!(one("\u{feff}1 2 1 1 - x").row.seq, 1);
+    }
+
+    #[test]
     fn answers() {
         let answers = [
             ("", true, Ok(())),
@@ -290,11 +312,7 @@ mod tests {
         ];
         for (word, verified, outcome) in answers {
             let read = one(&format!("1 0 1 1 - x {word}"));
-            assert_eq!(
-                (read.verified, read.outcome),
-                (verified, outcome),
-                "{word}"
-            );
+            assert_eq!((read.verified, read.outcome), (verified, outcome), "{word}");
         }
     }
 
@@ -332,7 +350,24 @@ mod tests {
     fn faults() {
         let faults = [
             ("\n1 0 1 1 -", 2, "5 words"),
-            ("1 0 1 1 - x fits 8", 1, "8 words"),
+            ("1 0 1 1 - x fits unverified signature/00 8", 1, "10 words"),
+            ("\"1\" 0 1 1 - x", 1, "`\"1\"` is no wall time"),
+            ("1 +0 1 1 - x", 1, "`+0` is no counter"),
+            ("1 0/b 1 1 - x", 1, "`b` is no author"),
+            ("1 0 1 1 - \"x\\\"", 1, "a double quote is not closed"),
+            ("1 0 1 1 - \"\\n\"", 1, "`\\n` does not begin with"),
+            ("1 0 1 1 - \"\\x4\"", 1, "`\\x4` does not begin with"),
+            ("1 0 1 1 - \"\\x+4\"", 1, "`\\x+4` does not begin with"),
+            ("1 0 1 1 - x 8", 1, "`8` is no answer"),
+            ("1 0 1 1 - x fits denied", 1, "`denied` says again"),
+            (
+                "1 0 1 1 - x unverified unverified",
+                1,
+                "`unverified` says again",
+            ),
+            ("1 0 1 1 - x signature/1", 1, "`1` is no signature"),
+            ("1 0 1 1 - x signature/1g", 1, "`1g` is no signature"),
+            ("1 0 1 1 - x signature/ä1", 1, "`ä1` is no signature"),
             ("time", 1, "1 words"),
             (
                 "1 0 1 1 - x\n# ok\none 0 1 1 - x",
@@ -365,12 +400,6 @@ mod tests {
             );
         }
         assert_eq!(fault(b"\n1 0 1 1 - \xff"), (2, "not UTF-8 text".to_owned()));
-    }
-
-    #[test]
-    fn the_examples_read() {
-        assert_eq!(sizes(include_str!("../../../../examples/desk-a.txt")), [3, 3]);
-        assert_eq!(sizes(include_str!("../../../../examples/desk-b.txt")), [2, 2]);
     }
 
     #[test]

@@ -30,7 +30,9 @@ fn closing_quote(quoted: &str) -> Option<usize> {
 
 /// The bytes that a bare word or a quoted text stands for.
 pub fn bytes(word: &str) -> Result<Vec<u8>, Fault> {
-    let quoted = word.strip_prefix('"').and_then(|word| word.strip_suffix('"'));
+    let quoted = word
+        .strip_prefix('"')
+        .and_then(|word| word.strip_suffix('"'));
     let Some(quoted) = quoted else {
         return Ok(word.as_bytes().to_vec());
     };

@@ -69,7 +69,9 @@ fn quoted(payload: &[u8]) -> String {
         for letter in chunk.valid().chars() {
             match letter {
                 '"' | '\\' => quoted.extend(['\\', letter]),
-                _ if unprinted(letter) => escape(&mut quoted, letter.encode_utf8(&mut [0; 4]).as_bytes()),
+                _ if unprinted(letter) => {
+                    escape(&mut quoted, letter.encode_utf8(&mut [0; 4]).as_bytes())
+                }
                 _ => quoted.push(letter),
             }
         }
@@ -87,4 +89,107 @@ fn escape(quoted: &mut String, bytes: &[u8]) {
 pub fn unprinted(letter: char) -> bool {
     let turns = matches!(letter, '\u{200e}'..='\u{200f}' | '\u{2028}'..='\u{202e}' | '\u{2066}'..='\u{2069}');
     letter.is_control() || turns
+}
+
+#[cfg(test)]
+mod tests {
+    use super::*;
+    use crate::desk::{pack, unpack};
+    use crate::text::parse;
+    use cuwelfra::{ActorId, Timestamp, MAX_BATCH};
+
+    /// Numbers that look random, the same in every run.
+    struct Numbers(u64);
+
+    impl Numbers {
+        fn next(&mut self) -> u64 {
+            self.0 ^= self.0 << 13;
+            self.0 ^= self.0 >> 7;
+            self.0 ^= self.0 << 17;
+            self.0
+        }
+
+        fn below(&mut self, bound: u64) -> u64 {
+            self.next() % bound
+        }
+
+        /// Of any size, small ones too.
+        fn any(&mut self) -> u64 {
+            let shift = self.below(65);
+            self.next().checked_shr(shift as u32).unwrap_or(0)
+        }
+
+        fn bytes(&mut self, max: u64) -> Vec<u8> {
+            let telling = b"\"\\#x \t\n\r\x00\x7f\xc3\xa4\xe2\x80\xae-";
+            let byte = |numbers: &mut Self| match numbers.below(2) {
+                0 => numbers.next() as u8,
+                _ => telling[numbers.below(telling.len() as u64) as usize],
+            };
+            (0..self.below(max + 1)).map(|_| byte(self)).collect()
+        }
+
+        fn row(&mut self) -> BatchRow {
+            let actor = ActorId(self.any());
+            let deps = (0..self.below(17)).map(|_| (ActorId(self.any()), self.any()));
+            let mut deps: Vec<(ActorId, u64)> = deps.collect();
+            deps.sort();
+            deps.dedup_by_key(|pair| pair.0);
+            let stamped_by = [actor, ActorId(self.any())][self.below(2) as usize];
+            let row = Row {
+                timestamp: Timestamp::new(self.any(), self.any() as u32, stamped_by),
+                actor,
+                seq: self.any(),
+                deps,
+                payload: self.bytes(256),
+                signature: self.bytes(64),
+            };
+            let detail = self.next() as u8;
+            let outcomes = [
+                Ok(()),
+                Err(ApplyError::MalformedOp),
+                Err(ApplyError::UnknownOpTag(detail)),
+                Err(ApplyError::Denied),
+                Err(ApplyError::Invalid(detail)),
+            ];
+            BatchRow {
+                row,
+                verified: self.below(2) == 0,
+                outcome: outcomes[self.below(5) as usize],
+            }
+        }
+    }
+
+    /// Rows to bytes, to rows, to text, to rows.
+    #[test]
+    fn what_is_written_reads_as_it_was() {
+        let mut numbers = Numbers(0x9e37_79b9_7f4a_7c15);
+        for _ in 0..300 {
+            let rows = 1 + numbers.below(MAX_BATCH as u64);
+            let rows: Vec<BatchRow> = (0..rows).map(|_| numbers.row()).collect();
+            let batch = pack(&rows).expect("rows that fit");
+            let offer = unpack("file".as_ref(), batch.bytes()).expect("a batch that reads");
+            assert_eq!(offer.rows, rows);
+            let text = write(std::slice::from_ref(&offer));
+            assert_eq!(text.lines().count(), rows.len());
+            assert_eq!(parse(text.as_bytes()).expect("a text that reads"), [offer]);
+        }
+    }
+
+    #[test]
+    fn times_and_batches_are_written() {
+        let text =
+            "1 0 1 1  -  \"x\"\n---\ntime 5\n2 0 1 2  -  \"x\"\n---\n3 0 1 3  1:2,2:0  \"x\"\n\
+                    ---\ntime 4\n4 0 1 4  -  \"\"  denied\n5 0 1 5  -  \"y\"\n";
+        let offers = parse(text.as_bytes()).expect("a text that reads");
+        assert_eq!(write(&offers), text);
+        assert_eq!(write(&[]), "");
+    }
+
+    #[test]
+    fn payloads_are_one_line_and_hide_nothing() {
+        let bow = "Bügel = \"bow\"".as_bytes();
+        assert_eq!(quoted(bow), r#""Bügel = \"bow\"""#);
+        assert_eq!(quoted(b"a\\b\nc\xff"), r#""a\\b\x0ac\xff""#);
+        assert_eq!(quoted("\u{202e}x".as_bytes()), r#""\xe2\x80\xaex""#);
+    }
 }
