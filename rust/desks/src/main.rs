@@ -45,7 +45,7 @@ impl Answer {
 fn main() -> ExitCode {
     match commands::run(env::args_os().skip(1).collect()) {
         Ok(answer) => print(&answer),
-        Err(error) => failed(&error),
+        Err(error) => failed(2, &error.to_string()),
     }
 }
 
@@ -56,14 +56,16 @@ fn print(answer: &Answer) -> ExitCode {
         .and_then(|()| out.flush());
     match printed {
         // Who reads only the beginning has seen enough.
-        Err(error) if error.kind() != io::ErrorKind::BrokenPipe => failed(&error),
+        Err(error) if error.kind() != io::ErrorKind::BrokenPipe => {
+            failed(4, &format!("cannot print: {error}"))
+        }
         _ if answer.well => ExitCode::SUCCESS,
         _ => ExitCode::FAILURE,
     }
 }
 
-fn failed(error: &dyn std::error::Error) -> ExitCode {
+fn failed(status: u8, why: &str) -> ExitCode {
     // Where this cannot be written either, the status still tells it.
-    let _ = writeln!(io::stderr(), "./run: {error}");
-    ExitCode::from(2)
+    let _ = writeln!(io::stderr(), "./run: {why}");
+    ExitCode::from(status)
 }

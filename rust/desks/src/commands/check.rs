@@ -2,6 +2,8 @@
 
 use std::path::Path;
 
+use cuwelfra::MAX_HELD;
+
 use crate::error::Error;
 use crate::store::load;
 use crate::table::{pairs, stamp};
@@ -14,8 +16,8 @@ pub fn run(words: Words) -> Result<Answer, Error> {
     let store = load(file)?;
     Ok(Answer::well(format!(
         "{}: sound\n\
-         logged     {} rows of {}\n\
-         held       {} rows of 64\n\
+         logged     {} of {} rows\n\
+         held       {} of {MAX_HELD} rows\n\
          clock      {}\n\
          compacted  {}\n\
          floor      {}\n",

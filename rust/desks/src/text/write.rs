@@ -175,6 +175,29 @@ mod tests {
         }
     }
 
+    /// Whatever a changed byte makes of the examples: it reads or is refused, and what reads is written and read again.
+    #[test]
+    fn what_reads_is_written() {
+        let desks: [&[u8]; 2] = [
+            include_bytes!("../../../../examples/desk-a.txt"),
+            include_bytes!("../../../../examples/desk-b.txt"),
+        ];
+        let mut read = 0;
+        for (desk, byte) in desks
+            .iter()
+            .flat_map(|desk| b"\"\\# \n:/x9\xff".map(|byte| (desk, byte)))
+        {
+            for at in 0..desk.len() {
+                let mut text = desk.to_vec();
+                text[at] = byte;
+                let Ok(offers) = parse(&text) else { continue };
+                assert_eq!(parse(write(&offers).as_bytes()), Ok(offers), "{at}, {byte}");
+                read += 1;
+            }
+        }
+        assert!(read > 5_000, "{read} texts read");
+    }
+
     #[test]
     fn times_and_batches_are_written() {
         let text =
