@@ -15,7 +15,7 @@
 use std::error::Error;
 use std::ffi::OsString;
 use std::fmt;
-use std::fs::{self, File, OpenOptions};
+use std::fs::{self, File, OpenOptions, Permissions};
 use std::io::{self, Read, Write};
 use std::path::{Path, PathBuf};
 
@@ -202,10 +202,15 @@ impl Update {
         }
     }
 
-    /// Puts the store in the file's place: the temporary file is written, synced and renamed, then the folder is
-    /// synced. Where a step fails the old file is as it was; only a failed sync of the folder leaves the new one.
+    /// Puts the store in the file's place, with its permissions: the temporary file is written, synced and renamed,
+    /// then the folder is synced. Where a step fails the old file is as it was; only a failed sync of the folder leaves
+    /// the new one.
     pub fn save(mut self, store: &Store) -> Result<(), FileError> {
-        self.temporary.write(&encode(store)?)?;
+        let bytes = encode(store)?;
+        if let Ok(old) = fs::metadata(&self.path) {
+            self.temporary.permit(old.permissions())?;
+        }
+        self.temporary.write(&bytes)?;
         self.temporary.rename(&self.path)?;
         File::open(folder(&self.path))
             .and_then(|folder| folder.sync_all())
@@ -240,6 +245,12 @@ impl Temporary {
             }
             Err(error) => Err(while_trying("make a temporary file beside it")(error)),
         }
+    }
+
+    fn permit(&self, permissions: Permissions) -> Result<(), FileError> {
+        self.file
+            .set_permissions(permissions)
+            .map_err(while_trying("set the temporary file's permissions"))
     }
 
     fn write(&mut self, bytes: &[u8]) -> Result<(), FileError> {
@@ -686,7 +697,7 @@ mod tests {
         let folder = Folder::new("readonly");
         let old = store(1, &[1]);
         old.save(folder.file()).expect("a file to write");
-        let mode = |mode| fs::set_permissions(&folder.0, fs::Permissions::from_mode(mode));
+        let mode = |mode| fs::set_permissions(&folder.0, Permissions::from_mode(mode));
         mode(0o555).expect("a folder");
         if File::create(folder.0.join("probe")).is_err() {
             let error = store(1, &[]).save(folder.file()).expect_err("no room");
@@ -697,6 +708,20 @@ mod tests {
         }
         mode(0o755).expect("a folder");
         assert_eq!(Store::load(folder.file()).expect("the old file"), old);
+    }
+
+    #[test]
+    #[cfg(unix)]
+    fn permissions_stay() {
+        use std::os::unix::fs::PermissionsExt;
+        let folder = Folder::new("mode");
+        store(1, &[]).save(folder.file()).expect("a file to write");
+        for mode in [0o600, 0o640] {
+            fs::set_permissions(folder.file(), Permissions::from_mode(mode)).expect("a file");
+            store(1, &[1]).save(folder.file()).expect("a file to write");
+            let told = fs::metadata(folder.file()).expect("a file").permissions();
+            assert_eq!(told.mode() & 0o777, mode);
+        }
     }
 
     #[test]

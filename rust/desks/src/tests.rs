@@ -12,6 +12,7 @@ use crate::Answer;
 const ROOT: &str = concat!(env!("CARGO_MANIFEST_DIR"), "/../../");
 const DESK_A: &str = concat!(env!("CARGO_MANIFEST_DIR"), "/../../examples/desk-a.txt");
 const DESK_B: &str = concat!(env!("CARGO_MANIFEST_DIR"), "/../../examples/desk-b.txt");
+const DESK_C: &str = concat!(env!("CARGO_MANIFEST_DIR"), "/../../examples/desk-c.txt");
 
 /// A folder of its own for a test, removed after it.
 struct Folder(PathBuf);
@@ -37,6 +38,7 @@ impl Folder {
         let word = |word: &str| match word {
             "DESK_A" => DESK_A.into(),
             "DESK_B" => DESK_B.into(),
+            "DESK_C" => DESK_C.into(),
             _ if word.contains('.') => self.0.join(word).into_os_string(),
             _ => word.into(),
         };
@@ -109,6 +111,7 @@ fn the_example() {
     folder.write("sub/example.store", "damaged");
     folder.well("example sub/example.store DESK_A DESK_B");
     golden!("check.txt", folder.well("check sub/example.store"));
+    golden!("join-c.txt", folder.well("join sub/example.store DESK_C"));
 }
 
 #[test]
@@ -167,7 +170,7 @@ fn a_delta_and_its_text() {
     folder.well("join a.store out.txt");
     let log = |file: &str| folder.well(&format!("log {file}"));
     assert_eq!(log("a.store"), log("ab.store"));
-    let none = "a.store lacks 0 rows of ab.store, in 0 chunks.\n";
+    let none = "a.store lacks 0 rows of ab.store.\n";
     assert_eq!(folder.well("delta ab.store a.store"), none);
     // A file that is there is not written over.
     let told = folder.fails("delta ab.store a.store --out out.txt");

@@ -23,13 +23,11 @@ pub fn run(mut words: Words) -> Result<Answer, Error> {
     let (from, to) = (from.display(), to.display());
 
     let rows: usize = chunks.iter().map(Vec::len).sum();
-    let mut text = format!(
-        "{to} lacks {} of {from}, in {}.\n",
-        counted(rows, "row"),
-        counted(chunks.len(), "chunk")
-    );
+    let mut text = format!("{to} lacks {} of {from}.\n", counted(rows, "row"));
     if rows > 0 {
-        text += &format!("\n{}", table::delta(&chunks));
+        let lens: Vec<String> = chunks.iter().map(|chunk| chunk.len().to_string()).collect();
+        text += &format!("Rows of each chunk: {}\n\n", lens.join(", "));
+        text += &table::delta(&chunks).to_string();
     }
     let whole = store.can_serve(&clock)?;
     if !whole {

@@ -4,6 +4,7 @@ use crate::calls;
 use crate::commands::compare::{both_orders, differences, verdict};
 use crate::desk::{make_folder, Desk};
 use crate::error::Error;
+use crate::table::pairs;
 use crate::words::Words;
 use crate::Answer;
 
@@ -26,7 +27,8 @@ pub fn run(words: Words) -> Result<Answer, Error> {
     let text = format!(
         "Joined {} into an empty store.\n\n{}\n{}\n{}\n{}\n{}\n\
          The store is in {file}. Try next:\n\n    \
-         ./run held {file}\n    \
+         ./run join {file} examples/desk-c.txt\n    \
+         ./run check {file}\n    \
          ./run cutoff {file} {}\n    \
          ./run explain 13\n    \
          ./run --help\n",
@@ -36,7 +38,7 @@ pub fn run(words: Words) -> Result<Answer, Error> {
         view.held(),
         view.clock(),
         verdict(&differences, view),
-        crate::table::pairs(&view.clock),
+        pairs(&view.clock),
     );
     Ok(Answer {
         text,

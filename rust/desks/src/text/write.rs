@@ -5,10 +5,12 @@ use cuwelfra::{ApplyError, BatchRow, Row};
 use super::Offer;
 use crate::table::pairs;
 
-/// The text of batches, which reads as them: every row, and every time that is not the one before it.
+/// The text of batches, which reads as them: every row, and every time that is not the one before it. A batch without
+/// rows is left out.
 pub fn write(offers: &[Offer]) -> String {
     let mut time_ms = None;
-    let batches = offers.iter().map(|offer| {
+    let offers = offers.iter().filter(|offer| !offer.rows.is_empty());
+    let batches = offers.map(|offer| {
         let rows: Vec<String> = offer.rows.iter().map(line).collect();
         let time = offer.time_ms.filter(|_| offer.time_ms != time_ms);
         time_ms = offer.time_ms;
@@ -206,6 +208,11 @@ mod tests {
         let offers = parse(text.as_bytes()).expect("a text that reads");
         assert_eq!(write(&offers), text);
         assert_eq!(write(&[]), "");
+        let none = Offer {
+            time_ms: Some(7),
+            rows: Vec::new(),
+        };
+        assert_eq!(write(&[none]), "");
     }
 
     #[test]
