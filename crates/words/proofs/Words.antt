@@ -6,11 +6,13 @@ use native.Mathlib.Omega.{arith}
 use lib.ListN.{length, take, drop, getD, set, replicate, length-append, length-take, length-drop, length-replicate, getD-replicate, take-append-drop, List·getD-eq-default}
 use lib.Seq.{drop-cons, take-add, drop-drop, length-take-le, sets-eq, getD-take, getD-drop, ext-getD}
 use mathlib.Core.Logic.{_⊎_, inl, inr}
-use mathlib.Core.Bool.{Bool, true, false}
-use lib.Dec.{ltb}
-use borrow.Author.Tests.{ltb-true, ltb-false}
+use mathlib.Core.Bool.{Bool, true, false, not}
+use lib.Dec.{ltb, eqb}
+use borrow.Author.Tests.{ltb-true, ltb-false, eqb-true, eqb-false}
 use Rattle.words.specs.Be.{Bytes, be64, get64, bes, wordsAt}
-use Rattle.words.specs.Areas.{pad, putAt, Zero}
+use Rattle.words.specs.Areas.{pad, putAt, Zero, ZeroIn}
+use Rattle.words.specs.Choice.{Tells}
+use Rattle.words.specs.Choice.Tells.{yes, no}
 
 digits : (a b c d e f g h : ℕ) → a < 256 → b < 256 → c < 256 → d < 256 → e < 256 → f < 256 → g < 256 → h < 256
     → be64 (a * 72057594037927936 + b * 281474976710656 + c * 1099511627776 + d * 4294967296 + e * 16777216 + f * 65536 + g * 256 + h)
@@ -134,6 +136,96 @@ zero-all s i h z =
 
 pub zero-not : (s : List ℕ) (i : ℕ) → i < length s → (getD s i 0 ≡ 0 → ⊥) → Zero s → ⊥
 zero-not s i h n z = n (ap (λ (l : List ℕ). getD l i 0) z ∙ getD-replicate (length s) i 0 0 h)
+
+-- what is zero up to i, and from there up to j, is zero up to j
+pub in-join : (s : List ℕ) (from i j : ℕ) → ZeroIn s from i → ZeroIn s i j → ZeroIn s from j
+in-join s from i j y z k a b = elim (lt-or-le k i) [ inl l ↦ y k a l | inr l ↦ z k l b ]
+
+pub in-none : (s : List ℕ) (from : ℕ) → ZeroIn s from from
+in-none s from k a b = absurd (omega arith)
+
+pub in-one : (s : List ℕ) (i : ℕ) → getD s i 0 ≡ 0 → ZeroIn s i (i + 1)
+in-one s i h k a b =
+    let e : k ≡ i = omega arith in
+    ap (λ (m : ℕ). getD s m 0) e ∙ h
+
+word-zero : (s : List ℕ) (i : ℕ) → get64 s i ≡ 0 → (j : ℕ) → j < 8 → getD s (i + j) 0 ≡ 0
+unfolding get64
+word-zero s i h zero l =
+    let e : i + 0 ≡ i = omega arith in
+    rw (e) (omega arith)
+word-zero s i h (suc zero) l = omega arith
+word-zero s i h (suc (suc zero)) l = omega arith
+word-zero s i h (suc (suc (suc zero))) l = omega arith
+word-zero s i h (suc (suc (suc (suc zero)))) l = omega arith
+word-zero s i h (suc (suc (suc (suc (suc zero))))) l = omega arith
+word-zero s i h (suc (suc (suc (suc (suc (suc zero)))))) l = omega arith
+word-zero s i h (suc (suc (suc (suc (suc (suc (suc zero))))))) l = omega arith
+word-zero s i h (suc (suc (suc (suc (suc (suc (suc (suc j)))))))) l = absurd (omega arith)
+
+-- a word that is zero has eight zero bytes
+pub in-word : (s : List ℕ) (i : ℕ) → get64 s i ≡ 0 → ZeroIn s i (i + 8)
+in-word s i h k a b =
+    let e : k ≡ i + (k - i) = omega arith in
+    ap (λ (n : ℕ). getD s n 0) e ∙ word-zero s i h (k - i) (omega arith)
+
+-- and the other way round
+pub word-in : (s : List ℕ) (from to i : ℕ) → from ≤ i → i + 8 ≤ to → ZeroIn s from to → get64 s i ≡ 0
+unfolding get64
+word-in s from to i h l z =
+    omega (
+      arith,
+      z i (omega arith) (omega arith),
+      z (i + 1) (omega arith) (omega arith),
+      z (i + 2) (omega arith) (omega arith),
+      z (i + 3) (omega arith) (omega arith),
+      z (i + 4) (omega arith) (omega arith),
+      z (i + 5) (omega arith) (omega arith),
+      z (i + 6) (omega arith) (omega arith),
+      z (i + 7) (omega arith) (omega arith),
+    )
+
+-- four words that are zero
+in-four : (s : List ℕ) (i : ℕ) → get64 s i ≡ 0 → get64 s (i + 8) ≡ 0 → get64 s (i + 16) ≡ 0 → get64 s (i + 24) ≡ 0 → ZeroIn s i (i + 32)
+in-four s i a b c d =
+    let z : ZeroIn s (i + 8) (i + 16) = λ k l m. in-word s (i + 8) b k l (omega arith) in
+    let y : ZeroIn s (i + 16) (i + 24) = λ k l m. in-word s (i + 16) c k l (omega arith) in
+    let x : ZeroIn s (i + 24) (i + 32) = λ k l m. in-word s (i + 24) d k l (omega arith) in
+    in-join s i (i + 24) (i + 32) (in-join s i (i + 16) (i + 24) (in-join s i (i + 8) (i + 16) (in-word s i a) z) y) x
+
+-- the last of four words tells, where the others are zero
+pub four-tells : (s : List ℕ) (i w : ℕ) → get64 s i ≡ 0 → get64 s (i + 8) ≡ 0 → get64 s (i + 16) ≡ 0 → w ≡ get64 s (i + 24)
+    → Tells (ZeroIn s i (i + 32)) (eqb w 0)
+four-tells s i w a b c e =
+    elim (test (eqb w 0)) [
+      | inl h ↦ let f : get64 s (i + 24) ≡ 0 = sym e ∙ eqb-true w 0 h in rw (h) (yes (in-four s i a b c f))
+      | inr h ↦ rw (h) (no (λ z. eqb-false w 0 h (e ∙ word-in s i (i + 32) (i + 24) (omega arith) (omega arith) z)))
+    ]
+
+-- all of an area
+zero-in : (s : List ℕ) (from to : ℕ) → to ≤ length s → Zero s → ZeroIn s from to
+zero-in s from to h z k a l = ap (λ (m : List ℕ). getD m k 0) z ∙ getD-replicate (length s) k 0 0 (omega arith)
+
+in-zero : (s : List ℕ) → ZeroIn s 0 (length s) → Zero s
+in-zero s z = zero-all s (length s) (omega arith) (λ k l. z k (omega arith) l)
+
+-- what is zero up to i: the rest tells
+pub in-tells : (s : List ℕ) (from i to : ℕ) (b : Bool) → from ≤ i → ZeroIn s from i → Tells (ZeroIn s i to) b → Tells (ZeroIn s from to) b
+in-tells s from i to true h y (yes z) = yes (in-join s from i to y z)
+in-tells s from i to false h y (no n) = no (λ z. n (λ k a l. z k (omega arith) l))
+
+-- a test of the elements from i up to j: passed, and not
+pub in-more : (s : List ℕ) (from i j : ℕ) (b : Bool) → Tells (ZeroIn s i j) b → not b ≡ false → ZeroIn s from i → ZeroIn s from j
+in-more s from i j true (yes z) e y = in-join s from i j y z
+in-more s from i j false (no n) e y = absurd (let z : _≡_ {A = ℕ} 0 1 = cc in omega arith)
+
+pub zero-not-in : (s : List ℕ) (i j : ℕ) (b : Bool) → j ≤ length s → Tells (ZeroIn s i j) b → not b ≡ true → Zero s → ⊥
+zero-not-in s i j false h (no n) e z = n (zero-in s i j h z)
+zero-not-in s i j true h (yes y) e z = absurd (let w : _≡_ {A = ℕ} 0 1 = cc in omega arith)
+
+pub zero-tells : (s : List ℕ) (b : Bool) → Tells (ZeroIn s 0 (length s)) b → Tells (Zero s) b
+zero-tells s true (yes z) = yes (in-zero s z)
+zero-tells s false (no n) = no (λ z. n (zero-in s 0 (length s) (omega arith) z))
 
 -- eight stores in a row
 pub put8 : (l : List ℕ) (i a b c d e f g h : ℕ) → i + 8 ≤ length l

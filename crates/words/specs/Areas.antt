@@ -1,8 +1,8 @@
 -- What is written to a lent area. Assumes nothing.
-use Prim.Native.Nat.{ℕ, _+_, _-_}
+use Prim.Native.Nat.{ℕ, _+_, _-_, _≤_, _<_}
 use mathlib.Core.Path.{_≡_}
 use mathlib.Core.List.{List, _++_}
-use lib.ListN.{length, take, drop, replicate}
+use lib.ListN.{length, take, drop, replicate, getD}
 
 -- s with the elements of vs from `at` on
 unfoldable pub putAt : List ℕ → ℕ → List ℕ → List ℕ
@@ -15,6 +15,10 @@ pad n l = l ++ replicate (n - length l) 0
 -- every element is zero
 abbrev pub Zero : List ℕ → Type 0
 Zero s = s ≡ replicate (length s) 0
+
+-- every element from `from` up to `to` is zero
+abbrev pub ZeroIn : List ℕ → ℕ → ℕ → Type 0
+ZeroIn s from to = (k : ℕ) → from ≤ k → k < to → getD s k 0 ≡ 0
 
 -- s with the elements from `from` up to `to` moved up by `by`: what lay below from + by stays
 unfoldable pub movedUp : ℕ → ℕ → ℕ → List ℕ → List ℕ

@@ -3,28 +3,33 @@ use Prim.Native.Nat.{ℕ, _+_, _-_, _*_, _≤_, _<_}
 use mathlib.Core.Path.{_≡_}
 use native.Mathlib.Omega.{arith}
 use lib.ListN.{length, getD}
-use borrow.Author.Count.{below-more}
-use Rattle.words.specs.Choice.Tells.{yes, no}
-use Rattle.words.proofs.Words.{zero-all, zero-not}
+use Rattle.words.specs.Areas.{ZeroIn}
+use Rattle.words.specs.Choice.Tells.{no}
+use Rattle.words.proofs.Words.{in-none, in-more, zero-not-in, in-tells, zero-tells}
 use Rattle.words.proofs.is_zero.Statement.{statement}
 use Rattle.words.proofs.is_zero.Tie as tie
 use Rattle.words.proofs.is_zero.Reads as reads
 use Rattle.words.proofs.is_zero.Lts as lts
+use Rattle.words.proofs.four_are_zero.Reads as four-are-zero-reads
+use Rattle.words.proofs.words_are_zero.Reads as words-are-zero-reads
 
 abbrev Inv-loop : tie.InvT-loop
-Inv-loop s i₀ i = (i ≤ length s) × ((k : ℕ) → k < i → getD s k 0 ≡ 0)
+Inv-loop s i₀ i = (i ≤ length s) × ZeroIn s 0 i
 
 abbrev μ-loop : tie.MeasureT-loop
 μ-loop s i₀ i = length s - i
 
 loop-holds : tie.Need-loop-holds Inv-loop μ-loop
-loop-holds c = search needs
+loop-holds c = (search needs, in-none (c .before .args .s .now) _)
 
-shared-slice-read-if1 : tie.Need-shared-slice-read-if1 Inv-loop μ-loop
-shared-slice-read-if1 c = search needs
+sub-loop : tie.Need-sub-loop Inv-loop μ-loop
+sub-loop c = search needs
+
+four-are-zero-requires : tie.Need-four-are-zero-requires Inv-loop μ-loop
+four-are-zero-requires c κs = search needs
 
 returns : tie.Need-returns Inv-loop μ-loop
-returns c = no (zero-not _ (c .before .before .before .loop .i) (search needs) (search needs))
+returns c = no (zero-not-in (c .before .before .before .before .before .args .s .now) _ _ _ (search needs) (c .before .four-are-zero .ensures) (c .if1 .taken))
 
 add-i : tie.Need-add-i Inv-loop μ-loop
 add-i c = search needs
@@ -33,10 +38,13 @@ loop-less : tie.Need-loop-less Inv-loop μ-loop
 loop-less c = search needs
 
 loop-again : tie.Need-loop-again Inv-loop μ-loop
-loop-again c = (search needs, below-more _ _ (c .before .before .before .loop .inv .1) (search needs))
+loop-again c = (search needs, in-more (c .before .before .before .before .before .args .s .now) _ _ _ _ (c .before .four-are-zero .ensures) (c .if1 .left) (c .before .before .before .loop .inv .1))
+
+words-are-zero-requires : tie.Need-words-are-zero-requires Inv-loop μ-loop
+words-are-zero-requires c κs = search needs
 
 returns-2 : tie.Need-returns-2 Inv-loop μ-loop
-returns-2 c = yes (zero-all _ _ (search needs) (c .before .loop .inv .1))
+returns-2 c = zero-tells _ _ (in-tells (c .before .before .before .before .args .s .now) _ _ _ _ (omega arith) (c .before .before .loop .inv .1) (c .words-are-zero .ensures))
 
 pub is-zero-spec : {M : Type 1} → statement M
 is-zero-spec =
@@ -45,9 +53,11 @@ is-zero-spec =
     Inv-loop
     μ-loop
     loop-holds
-    shared-slice-read-if1
+    sub-loop
+    four-are-zero-requires
     returns
     add-i
     loop-less
     loop-again
+    words-are-zero-requires
     returns-2)
