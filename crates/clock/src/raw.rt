@@ -13,13 +13,19 @@ ghost use Rattle.words.specs.Areas.{putAt};
 ghost use Rattle.error.specs.Answer.{unit};
 ghost use Rattle.clock.specs.Area.{clockAt, clockBytes};
 ghost use Rattle.clock.specs.Entries.{get, put, observe, merge, dominates};
-ghost use Rattle.clock.specs.Rows.{search, putIn};
+ghost use Rattle.clock.specs.Rows.{search, putIn, inRows, roomOf};
 ghost use Rattle.clock.specs.Vector.{sound, entries, clockOf, grown, changedOf};
 
 // Where an author stands in a rising row of authors, or where it is to be put.
 enum Place {
     Here(usize),
     Gap(usize),
+}
+
+// How many places of a clock are used once an author was observed, or that it is an author too many.
+pub enum Room {
+    Count(usize),
+    Full,
 }
 
 // The place of an author among the first n.
@@ -109,18 +115,60 @@ pub(crate) fn entered(c: VectorClock, a: u64, n: u64) -> Changed
     }
 }
 
+// An author's number raised to at least seq, in a clock that is lent as two rows of which `count` places are used.
+pub fn observe_in(
+    authors: &mut [u64],
+    numbers: &mut [u64],
+    count: usize,
+    actor: ActorId,
+    seq: u64,
+) -> Room
+    requires { ⌜ (length (now authors) ≡ 32) × (length (now numbers) ≡ 32) × (sound (inRows (now authors) (now numbers) count) ≡ true) ⌝ }
+    ensures { λ r. ⌜ roomOf (inRows (now (authors .entry)) (now (numbers .entry)) count) (now (authors .exit)) (now (numbers .exit)) r ≡ grown (inRows (now (authors .entry)) (now (numbers .entry)) count) (observe (entries (inRows (now (authors .entry)) (now (numbers .entry)) count)) (actor .0) seq) unit ⌝ }
+{
+    let place = find(authors, count, actor.0);
+    match place {
+        Place::Here(i) => {
+            if numbers[i] < seq {
+                numbers[i] = seq;
+            }
+            Room::Count(count)
+        }
+        Place::Gap(i) => {
+            if seq == 0 {
+                return Room::Count(count);
+            }
+            if count == 32 {
+                return Room::Full;
+            }
+            put_in(authors, count, i, actor.0);
+            put_in(numbers, count, i, seq);
+            Room::Count(count + 1)
+        }
+    }
+}
+
 // An author's number raised to at least seq; refused where that is an author too many.
 pub fn observed(c: VectorClock, actor: ActorId, seq: u64) -> Changed
     requires { ⌜ sound c ≡ true ⌝ }
     ensures { λ r. ⌜ changedOf r ≡ grown c (observe (entries c) (actor .0) seq) unit ⌝ }
 {
-    let have = get(c, actor);
-    if have < seq {
-        return entered(c, actor.0, seq);
-    }
-    Changed {
-        outcome: Outcome::Done,
-        clock: c,
+    let mut authors = c.authors;
+    let mut numbers = c.numbers;
+    let room = observe_in(&mut authors, &mut numbers, c.count, actor, seq);
+    match room {
+        Room::Count(count) => Changed {
+            outcome: Outcome::Done,
+            clock: VectorClock {
+                authors: authors,
+                numbers: numbers,
+                count: count,
+            },
+        },
+        Room::Full => Changed {
+            outcome: Outcome::Refused(Refusal::AuthorsFull),
+            clock: c,
+        },
     }
 }
 

@@ -1,30 +1,41 @@
-use native.Mathlib.Omega.{arith}
-use Prim.Native.Nat.{ℕ}
-use mathlib.Core.Path.{_≡_, sym, _∙_}
-use lib.ListN.{length, length-map}
-use Rattle.clock.proofs.Growing.{observe-more, observe-less}
 use borrow.Author.Needs.{needs}
+use mathlib.Core.Path.{sym, _∙_, ap}
+use Rattle.clock.specs.Rows.{roomOf}
 use Rattle.clock.proofs.raw.observed.Statement.{statement}
 use Rattle.clock.proofs.raw.observed.Tie as tie
+use Rattle.clock.proofs.raw.observed.Reads as reads
+use Rattle.clock.proofs.raw.observed.Lts as lts
+use Rattle.clock.proofs.raw.observe_in.Reads as observe-in-reads
 
--- the arrays have their 32 elements
-authors32 : (c : tie.Start) → length (c .args .c .authors) ≡ 32
-authors32 c = sym (length-map (c .args .c .authors) (λ (v : ℕ). v)) ∙ c .good .0 .1 .1 .0 .1 .0 .1
+slice-aggregate-observe-in : tie.Need-slice-aggregate-observe-in
+slice-aggregate-observe-in c = search needs
 
-numbers32 : (c : tie.Start) → length (c .args .c .numbers) ≡ 32
-numbers32 c = sym (length-map (c .args .c .numbers) (λ (v : ℕ). v)) ∙ c .good .0 .1 .1 .1 .0 .1 .0 .1
+slice-aggregate-observe-in-2 : tie.Need-slice-aggregate-observe-in-2
+slice-aggregate-observe-in-2 c = search needs
 
-get-requires : tie.Need-get-requires
-get-requires c κs = search needs
+observe-in-requires : tie.Need-observe-in-requires
+observe-in-requires c κs = search needs
 
-entered-requires : tie.Need-entered-requires
-entered-requires c κs = search needs
+enum-known-room : tie.Need-enum-known-room
+enum-known-room c = search needs
+
+enum-told : tie.Need-enum-told
+enum-told c = search needs
 
 returns : tie.Need-returns
-returns c = observe-more (c .before .before .before .args .c) (c .before .before .before .args .actor .0) (c .before .before .before .args .seq) (c .before .before .get .result) _ (c .before .before .get .ensures) (omega arith) (c .entered .ensures)
+returns c = ap (roomOf (c .before .before .before .before .before .before .before .before .before .before .args .c) (c .before .before .before .before .before .observe-in .last .0) (c .before .before .before .before .before .observe-in .last .1 .0)) (sym (c .before .room .given .1)) ∙ c .before .before .before .before .before .observe-in .ensures
 
 returns-2 : tie.Need-returns-2
-returns-2 c = observe-less (c .before .before .args .c) (c .before .before .pre) (authors32 (c .before .before)) (numbers32 (c .before .before)) (c .before .before .args .actor .0) (c .before .before .args .seq) (c .before .get .result) (c .before .get .ensures) (omega arith)
+returns-2 c = ap (roomOf (c .before .before .before .before .before .before .before .before .before .args .c) (c .before .before .before .before .observe-in .last .0) (c .before .before .before .before .observe-in .last .1 .0)) (sym (c .enum-told .given .1)) ∙ c .before .before .before .before .observe-in .ensures
 
 pub observed-spec : {M : Type 1} → statement M
-observed-spec = tie.close (tie.spec get-requires entered-requires returns returns-2)
+observed-spec =
+    tie.close
+    (tie.spec
+    slice-aggregate-observe-in
+    slice-aggregate-observe-in-2
+    observe-in-requires
+    enum-known-room
+    enum-told
+    returns
+    returns-2)
