@@ -19,6 +19,7 @@ use Rattle.merging.specs.Merging.{admit, admitAll, expireBy, unexpired}
 use Rattle.working.specs.Refs.{isRead, refsOk, workRows, cells}
 use Rattle.working.specs.Promises.{Working, Unexpired, AdmitsAll}
 use Rattle.working.specs.Columns.{Written}
+use Rattle.working.specs.Keys.{Keyed}
 use Rattle.working.specs.Entry.{admitted, Admits}
 use Rattle.working.specs.Entry.Admits.{is-duplicate, is-conflict, is-entered}
 use Rattle.working.specs.declared.Admitting.{Admitting}
@@ -63,36 +64,43 @@ length-in s (suc n) at t =
     ap length (r .1) ∙ ap suc (length-in s n (f .1) (r .0))
 
 -- ---- admission: left working rows, after i rows of the batch, the next of which starts at `at`
-pub record Entering (c : List (ℕ × ℕ)) (held batch s₀ : List ℕ) (n first rows : ℕ) (s : List ℕ) (left duplicates at i : ℕ) : Type 0 where
+pub record Entering (c : List (ℕ × ℕ)) (held batch s₀ ks₀ : List ℕ) (n first rows : ℕ) (s ks : List ℕ) (left duplicates at i : ℕ) : Type 0 where
   pub same : length s ≡ length s₀
+  pub same-keys : length ks ≡ length ks₀
   pub turn : i ≤ rows
   pub total : left + duplicates ≡ n + i
   pub few : n ≤ 64
   pub rows-few : rows ≤ 64
   pub room : 16 * (n + rows) ≤ length s₀
   pub refs : refsOk held batch (cells s 0 left) ≡ true
+  pub keyed : Keyed held batch s ks left
+  pub space : 5 * (n + rows) ≤ length ks₀
   pub read : isRead (readRows batch (rows - i) at) ≡ true
   pub whole : (time : ℕ) → admitAll c time (admitted held batch time (cells s 0 left) duplicates) (rowsIn (readRows batch (rows - i) at))
       ≡ admitAll c time (admitted held batch time (cells s₀ 0 n) 0) (rowsIn (readRows batch rows first))
 
-pub entering-start : (c : List (ℕ × ℕ)) (held batch s : List ℕ) (n first rows : ℕ) → Working held batch s n → isRead (readRows batch rows first) ≡ true
-    → n ≤ 64 → rows ≤ 64 → 16 * (n + rows) ≤ length s → Entering c held batch s n first rows s n 0 first 0
-entering-start c held batch s n first rows w t f g h =
+pub entering-start : (c : List (ℕ × ℕ)) (held batch s ks : List ℕ) (n first rows : ℕ) → Working held batch s n → isRead (readRows batch rows first) ≡ true
+    → n ≤ 64 → rows ≤ 64 → 16 * (n + rows) ≤ length s → Keyed held batch s ks n → 5 * (n + rows) ≤ length ks
+    → Entering c held batch s ks n first rows s ks n 0 first 0
+entering-start c held batch s ks n first rows w t f g h x y =
     let e : rows - 0 ≡ rows = omega arith in
     record {
       same = refl;
+      same-keys = refl;
       turn = omega arith;
       total = omega arith;
       few = f;
       rows-few = g;
       room = h;
       refs = w .refs;
+      keyed = x;
+      space = y;
       read = rw e t;
       whole = λ time. rw e;
     }
 
-module _ {c : List (ℕ × ℕ)} {held batch s₀ : List ℕ} {n first rows : ℕ} {s : List ℕ} {left duplicates at i : ℕ}
-    (g : Entering c held batch s₀ n first rows s left duplicates at i) (all : isRead (readRows batch rows first) ≡ true) where
+module _ {c : List (ℕ × ℕ)} {held batch s₀ ks₀ : List ℕ} {n first rows : ℕ} {s ks : List ℕ} {left duplicates at i : ℕ}
+    (g : Entering c held batch s₀ ks₀ n first rows s ks left duplicates at i) (all : isRead (readRows batch rows first) ≡ true) where
   in-all : (bs : List BatchRow) (end : ℕ) → readRows batch rows first ≡ got bs end → rowsIn (readRows batch rows first) ≡ bs
   in-all bs end e = rw e
 
@@ -114,11 +122,12 @@ module _ {c : List (ℕ × ℕ)} {held batch s₀ : List ℕ} {n first rows : �
     read-one : isRead (readRows batch (suc (rows - (i + 1))) at) ≡ true
     read-one = rw one at (g .read)
 
-    pub needs-one : Working held batch s left × (isRead (readRow batch at) ≡ true) × (16 * left + 16 ≤ length s)
+    pub needs-one : Working held batch s left × (isRead (readRow batch at) ≡ true) × (16 * left + 16 ≤ length s) × (5 * left + 5 ≤ length ks)
     needs-one = (
       record { room = omega (arith, g .room, g .total, g .same); refs = g .refs },
       row-is-read batch (rows - (i + 1)) at read-one,
       omega (arith, g .room, g .total, g .same),
+      omega (arith, g .space, g .total, g .same-keys),
     )
 
     unrolled : (time : ℕ) (b : BatchRow) (next : ℕ) → readRow batch at ≡ got b next
@@ -130,43 +139,49 @@ module _ {c : List (ℕ × ℕ)} {held batch s₀ : List ℕ} {n first rows : �
         rw one (rest-read batch (rows - (i + 1)) at read-one b next e .1) in
         rw r at (g .whole time)
 
-    pub entering-duplicate : (t : List ℕ) (next : ℕ) → Admits c held batch s t left at (answer.Duplicate next)
-        → Entering c held batch s₀ n first rows t left (duplicates + 1) next (i + 1)
-    entering-duplicate t next (is-duplicate b e f q) = record {
+    pub entering-duplicate : (t us : List ℕ) (next : ℕ) → length us ≡ length ks → Admits c held batch s t us left at (answer.Duplicate next)
+        → Entering c held batch s₀ ks₀ n first rows t us left (duplicates + 1) next (i + 1)
+    entering-duplicate t us next lk (is-duplicate b e f q y) = record {
       same = ap length q ∙ g .same;
+      same-keys = lk ∙ g .same-keys;
       turn = omega arith;
       total = omega (arith, g .total);
       few = g .few;
       rows-few = g .rows-few;
       room = g .room;
       refs = rw q (g .refs);
+      keyed = y;
+      space = g .space;
       read = rest-read batch (rows - (i + 1)) at read-one b next e .0;
       whole = λ time. rw q (rw (f time duplicates) at (unrolled time b next e));
     }
 
-    pub entering-entered : (t : List ℕ) (next : ℕ) → length t ≡ length s → Admits c held batch s t left at (answer.Entered next)
-        → Entering c held batch s₀ n first rows t (left + 1) duplicates next (i + 1)
-    entering-entered t next len (is-entered b e f r) = record {
+    pub entering-entered : (t us : List ℕ) (next : ℕ) → length t ≡ length s → length us ≡ length ks → Admits c held batch s t us left at (answer.Entered next)
+        → Entering c held batch s₀ ks₀ n first rows t us (left + 1) duplicates next (i + 1)
+    entering-entered t us next len lk (is-entered b e f r y) = record {
       same = len ∙ g .same;
+      same-keys = lk ∙ g .same-keys;
       turn = omega arith;
       total = omega (arith, g .total);
       few = g .few;
       rows-few = g .rows-few;
       room = g .room;
       refs = r;
+      keyed = y;
+      space = g .space;
       read = rest-read batch (rows - (i + 1)) at read-one b next e .0;
       whole = λ time. rw (f time duplicates) at (unrolled time b next e);
     }
 
-    pub entering-conflict : (t : List ℕ) (author seq : ℕ) → Admits c held batch s t left at (answer.Conflict author seq)
+    pub entering-conflict : (t us : List ℕ) (author seq : ℕ) → Admits c held batch s t us left at (answer.Conflict author seq)
         → (time : ℕ) (bs : List BatchRow) (end : ℕ) → readRows batch rows first ≡ got bs end
         → AdmitsAll c held batch time s₀ t n bs (Refused (refusal.Conflict (record { 0 = author }) seq))
-    entering-conflict t author seq (is-conflict b next e f) time bs end q = record {
+    entering-conflict t us author seq (is-conflict b next e f) time bs end q = record {
       answer = rw (f time duplicates) at (unrolled time b next e) ∙ ap (λ (l : List BatchRow). admitAll c time (admitted held batch time (cells s₀ 0 n) 0) l) (in-all bs end q);
       refs = omega arith;
     }
 
-pub answered : {c : List (ℕ × ℕ)} {held batch s t : List ℕ} {n at : ℕ} {a b : Admit} → a ≡ b → Admits c held batch s t n at a → Admits c held batch s t n at b
+pub answered : {c : List (ℕ × ℕ)} {held batch s t us : List ℕ} {n at : ℕ} {a b : Admit} → a ≡ b → Admits c held batch s t us n at a → Admits c held batch s t us n at b
 answered e v = rw e at v
 
 -- the clock that admission goes by, told otherwise

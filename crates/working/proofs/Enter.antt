@@ -27,7 +27,8 @@ use Rattle.merging.specs.Merging.{sameContent, Known, absent, present, lookBy, 
 use Rattle.working.specs.Refs.{isRead, arrivedBy, refOk, refsOk, workRow, workRows, cells}
 use Rattle.working.specs.Columns.{insAt, PutIn}
 use Rattle.working.specs.Looks.{refRow, batchRowAt, KeyOf, idRef, beforeRef, later, firstBy, firstWhere, placeIn}
-use Rattle.working.specs.Entry.{admitted, Puts, Admits}
+use Rattle.working.specs.Keys.{KeyIn, Keyed}
+use Rattle.working.specs.Entry.{admitted, Entrant, Puts, Admits}
 use Rattle.working.specs.Entry.Admits.{is-duplicate, is-conflict, is-entered}
 use Rattle.working.specs.declared.looks.Key.{Key}
 use Rattle.working.specs.declared.looks.Found.{Found}
@@ -36,6 +37,7 @@ use Rattle.working.specs.declared.entering.Admit.the-variants as answer
 use Rattle.working.proofs.Cells.{length-cells, cells-at, refs-of, of-refs, refs-ins}
 use Rattle.working.proofs.Rows.{row-time, work-batch, row-batch, batch-ok, after-read}
 use Rattle.working.proofs.Same.{key-numbers}
+use Rattle.working.proofs.Keying.{keyed-in}
 use Rattle.working.proofs.Searching.{found-below}
 
 -- ---- a row that was read from the batch
@@ -95,21 +97,6 @@ unfolding placeIn later
 place-later n (At i) = refl
 place-later n Nothing = refl
 
-place-by : (n : ℕ) (f : Found) (b : Bool) → placeIn n f ≤ n → placeIn (suc n) (firstBy b f) ≤ suc n
-unfolding placeIn firstBy
-place-by n f true h = omega arith
-place-by n f false h = rw (place-later n f) (omega arith)
-
-place-within : (p : ℕ → Bool) (ks : List ℕ) → placeIn (length ks) (firstWhere p ks) ≤ length ks
-unfolding placeIn firstWhere
-place-within p [] = omega arith
-place-within p (k ∷ ks) = place-by (length ks) (firstWhere p ks) (p k) (place-within p ks)
-
-pub place-below : (p : ℕ → Bool) (s : List ℕ) (n i : ℕ) → i ≡ placeIn n (firstWhere p (cells s 0 n)) → i ≤ n
-place-below p s n i e =
-    let l : length (cells s 0 n) ≡ n = length-cells s 0 n in
-    rw e (rw l at (place-within p (cells s 0 n)))
-
 -- what a place that was found means
 pub found-place : (n i : ℕ) (f : Found) → At i ≡ f → i ≡ placeIn n f
 unfolding placeIn
@@ -137,11 +124,13 @@ module _ (held batch : List ℕ) (time k : ℕ) (key : Key) (o : KeyOf (refRow h
   placed [] = refl
   placed (x ∷ ks) = placed-by x ks (firstWhere (beforeRef key held batch) ks) (beforeRef key held batch x) refl (placed ks)
 
-pub puts : (held batch s t : List ℕ) (n k i : ℕ) (key : Key) → KeyOf (refRow held batch k) key → refOk held batch k ≡ true → refsOk held batch (cells s 0 n) ≡ true
-    → i ≡ placeIn n (firstWhere (beforeRef key held batch) (cells s 0 n)) → PutIn s t n i k → Puts held batch s t n k
-puts held batch s t n k i key o ok r e p = record {
-  rows = λ time. rw (p, e) (rw (length-cells s 0 n) at (placed held batch time k key o (cells s 0 n)));
-  refs = rw p (of-refs (refs-ins (refs-of held batch (cells s 0 n) r) i k ok));
+pub puts : (held batch s t ks us : List ℕ) (n k i : ℕ) (key : Key) → Entrant held batch s ks n k key
+    → i ≡ placeIn n (firstWhere (beforeRef key held batch) (cells s 0 n)) → i ≤ n → PutIn s t n i k → KeyIn ks us n i key → 5 * (n + 1) ≤ length us
+    → Puts held batch s t us n k
+puts held batch s t ks us n k i key x e h p w r = record {
+  rows = λ time. rw (p, e) (rw (length-cells s 0 n) at (placed held batch time k key (x .own) (cells s 0 n)));
+  refs = rw p (of-refs (refs-ins (refs-of held batch (cells s 0 n) (x .refs)) i k (x .ok)));
+  keyed = keyed-in held batch s t ks us n i k key h p (x .own) w r (x .keyed);
 }
 
 -- ---- what a search by author and sequence finds
@@ -192,7 +181,7 @@ module _ (held batch : List ℕ) (at : ℕ) (r : RowRead) (p : ReadsRow batch at
       batch-ok held batch (64 + at) (omega arith) (rw (e, read-got batch at r p next er))
 
 -- ---- the answers
-module _ (c : List (ℕ × ℕ)) (held batch s t : List ℕ) (n at : ℕ) (r : RowRead) (p : ReadsRow batch at r) (next : ℕ) (er : r .reading ≡ ended.Read next)
+module _ (c : List (ℕ × ℕ)) (held batch s t us : List ℕ) (n at : ℕ) (r : RowRead) (p : ReadsRow batch at r) (next : ℕ) (er : r .reading ≡ ended.Read next)
     (have : ℕ) (eh : have ≡ get c (r .op .actor .0)) where
   abbrev own : Row
   own = rowOf batch (r .op)
@@ -206,8 +195,8 @@ module _ (c : List (ℕ × ℕ)) (held batch s t : List ℕ) (n at : ℕ) (r : R
   unfolding admit rowOf
   tested time dup b e = rw (← eh, e)
 
-  pub admit-old : r .op .seq ≤ have → t ≡ s → Admits c held batch s t n at (answer.Duplicate next)
-  admit-old h q = is-duplicate (readOf batch r) (read-got batch at r p next er) (λ time dup. tested time dup true (le-leb (r .op .seq) have h)) q
+  pub admit-old : r .op .seq ≤ have → t ≡ s → Keyed held batch t us n → Admits c held batch s t us n at (answer.Duplicate next)
+  admit-old h q y = is-duplicate (readOf batch r) (read-got batch at r p next er) (λ time dup. tested time dup true (le-leb (r .op .seq) have h)) q y
 
   module _ (h : have < r .op .seq) where
     known : (time dup : ℕ) (x : Known) → look own (workRows held batch time (cells s 0 n)) ≡ x
@@ -226,16 +215,16 @@ module _ (c : List (ℕ × ℕ)) (held batch s t : List ℕ) (n at : ℕ) (r : R
           known time dup (present (workRow held batch time k)) (rw at-j at (met-look (met-is own held batch time (cells s 0 n) (At j) e)))
           ∙ rw (← row-time held batch k time, ← eb)
 
-      pub admit-same : b ≡ true → t ≡ s → Admits c held batch s t n at (answer.Duplicate next)
-      admit-same q z = is-duplicate (readOf batch r) (read-got batch at r p next er) (λ time dup. told time dup ∙ rw q) z
+      pub admit-same : b ≡ true → t ≡ s → Keyed held batch t us n → Admits c held batch s t us n at (answer.Duplicate next)
+      admit-same q z y = is-duplicate (readOf batch r) (read-got batch at r p next er) (λ time dup. told time dup ∙ rw q) z y
 
-      pub admit-other : b ≡ false → Admits c held batch s t n at (answer.Conflict (r .op .actor .0) (r .op .seq))
+      pub admit-other : b ≡ false → Admits c held batch s t us n at (answer.Conflict (r .op .actor .0) (r .op .seq))
       admit-other q = is-conflict {author = r .op .actor .0} {seq = r .op .seq} (readOf batch r) next (read-got batch at r p next er) (λ time dup. told time dup ∙ rw q)
 
-    pub admit-new : Nothing ≡ firstWhere (idRef (r .op .actor .0) (r .op .seq) held batch) (cells s 0 n) → Puts held batch s t n (64 + at)
-        → Admits c held batch s t n at (answer.Entered next)
+    pub admit-new : Nothing ≡ firstWhere (idRef (r .op .actor .0) (r .op .seq) held batch) (cells s 0 n) → Puts held batch s t us n (64 + at)
+        → Admits c held batch s t us n at (answer.Entered next)
     unfolding whenKnown rowOf
-    admit-new e q = is-entered (readOf batch r) (read-got batch at r p next er) (λ time dup. new time dup) (q .refs)
+    admit-new e q = is-entered (readOf batch r) (read-got batch at r p next er) (λ time dup. new time dup) (q .refs) (q .keyed)
       where
         arrives : (time : ℕ) → workRow held batch time (64 + at) ≡ arrived time (readOf batch r)
         arrives time =

@@ -5,5 +5,6 @@ pub mod Rows
 pub mod Searching
 pub mod Emptying
 pub mod Same
+pub mod Keying
 pub mod Enter
 pub mod Batches

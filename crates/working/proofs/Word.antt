@@ -10,6 +10,7 @@ use lib.Seq.{getD-take, getD-drop, getD-append-add, drop-at, length-take-le}
 use Rattle.words.specs.Be.{be64, get64}
 use Rattle.words.specs.Areas.{putAt}
 use Rattle.words.proofs.Words.{word-there, word-drop}
+use Rattle.words.proofs.Puts.{length-be}
 use Rattle.working.specs.Columns.{Written}
 
 same-word : (s t : List ℕ) (b : ℕ) → ((k : ℕ) → b ≤ k → k < b + 8 → getD t k 0 ≡ getD s k 0) → get64 t b ≡ get64 s b
@@ -26,26 +27,34 @@ same-word s t b f =
       f (b + 7) (omega arith) (omega arith),
     )
 
+-- elements put from a on: those before and behind are as they were
+module _ (s vs : List ℕ) (a : ℕ) (h : a + length vs ≤ length s) where
+  pub put-low : (k : ℕ) → k < a → getD (putAt s a vs) k 0 ≡ getD s k 0
+  unfolding putAt
+  put-low k l =
+      rw (append-assoc (take a s) vs)
+      (List·getD-append (take a s) _ 0 k (simp length-take (omega arith)) ∙ getD-take a s k 0 l)
+
+  pub put-mid : (m : ℕ) → m < length vs → getD (putAt s a vs) (a + m) 0 ≡ getD vs m 0
+  unfolding putAt
+  put-mid m l =
+      let e : a + m ≡ length (take a s) + m = omega (arith, length-take-le a s (omega arith)) in
+      rw (e, append-assoc (take a s) vs) (getD-append-add (take a s) (vs ++ drop (a + length vs) s) m 0 ∙ List·getD-append vs _ 0 m l)
+
+  front : length (take a s ++ vs) ≡ a + length vs
+  front = simp (length-append, length-take) (omega arith)
+
+  pub put-high : (k : ℕ) → a + length vs ≤ k → getD (putAt s a vs) k 0 ≡ getD s k 0
+  unfolding putAt
+  put-high k l =
+      let e : k ≡ length (take a s ++ vs) + (k - (a + length vs)) = omega (arith, front) in
+      let f : a + length vs + (k - (a + length vs)) ≡ k = omega arith in
+      ap (λ (n : ℕ). getD (putAt s a vs) n 0) e ∙ getD-append-add (take a s ++ vs) (drop (a + length vs) s) (k - (a + length vs)) 0
+      ∙ getD-drop (a + length vs) s (k - (a + length vs)) 0 ∙ ap (λ (n : ℕ). getD s n 0) f
+
 module _ (s : List ℕ) (a v : ℕ) (h : a + 8 ≤ length s) where
   t : List ℕ
   t = putAt s a (be64 v)
-
-  low : (k : ℕ) → k < a → getD t k 0 ≡ getD s k 0
-  unfolding t putAt
-  low k l =
-      rw (append-assoc (take a s) (be64 v))
-      (List·getD-append (take a s) _ 0 k (simp length-take (omega arith)) ∙ getD-take a s k 0 l)
-
-  front : length (take a s ++ be64 v) ≡ a + 8
-  unfolding be64
-  front = simp (length-append, length-take) (omega arith)
-
-  high : (k : ℕ) → a + 8 ≤ k → getD t k 0 ≡ getD s k 0
-  unfolding t putAt be64
-  high k l =
-      let e : k ≡ length (take a s ++ be64 v) + (k - (a + 8)) = omega (arith, front) in
-      let f : a + 8 + (k - (a + 8)) ≡ k = omega arith in
-      ap (λ (n : ℕ). getD (putAt s a (be64 v)) n 0) e ∙ getD-append-add (take a s ++ be64 v) (drop (a + 8) s) (k - (a + 8)) 0 ∙ getD-drop (a + 8) s (k - (a + 8)) 0 ∙ ap (λ (n : ℕ). getD s n 0) f
 
   there : v < 18446744073709551616 → get64 t a ≡ v
   unfolding t putAt
@@ -58,7 +67,7 @@ module _ (s : List ℕ) (a v : ℕ) (h : a + 8 ≤ length s) where
   written x m e = rw e record {
     here = there m;
     else = λ b w. elim w [
-      | inl l ↦ same-word s _ b (λ k p q. low k (omega arith))
-      | inr l ↦ same-word s _ b (λ k p q. high k (omega arith))
+      | inl l ↦ same-word s _ b (λ k p q. put-low s (be64 v) a (rw (length-be v) h) k (omega arith))
+      | inr l ↦ same-word s _ b (λ k p q. put-high s (be64 v) a (rw (length-be v) h) k (rw (length-be v) (omega arith)))
     ];
   }

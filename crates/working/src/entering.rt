@@ -1,8 +1,9 @@
 // One row of the batch into the working rows: a duplicate, a conflict, or put in where it goes.
 use crate::contents::same_ref;
+use crate::keys::key_at;
+use crate::keys::put_key;
 use crate::looks::Found;
 use crate::looks::Key;
-use crate::looks::load_key;
 use crate::scratch::put_entry;
 use crate::ticking::clock_get;
 use row::Reading;
@@ -10,15 +11,17 @@ use row::reader::read_row;
 use words::raw::get_word;
 ghost use mathlib.Core.Path.{_≡_};
 ghost use mathlib.Core.Bool.{true};
-ghost use Prim.Native.Nat.{_+_, _*_, _≤_};
+ghost use mathlib.Core.List.{List};
+ghost use Prim.Native.Nat.{ℕ, _+_, _*_, _≤_};
 ghost use lib.ListN.{length};
 ghost use Rattle.clock.specs.Order.{less};
 ghost use Rattle.row.specs.Reading.{readRow};
-ghost use Rattle.working.specs.Refs.{isRead, refOk, cells};
+ghost use Rattle.working.specs.Refs.{isRead, cells};
 ghost use Rattle.working.specs.Promises.{Working};
 ghost use Rattle.working.specs.Ticks.{ticks, Clocked};
 ghost use Rattle.working.specs.Looks.{refRow, KeyOf, numbersOf, idRef, beforeRef, firstWhere, placeIn};
-ghost use Rattle.working.specs.Entry.{Puts, Admits};
+ghost use Rattle.working.specs.Keys.{keyAt, Keyed};
+ghost use Rattle.working.specs.Entry.{Entrant, Puts, Admits};
 
 // What became of a row: a duplicate or entered, and where the next one starts, or the conflict.
 pub(crate) enum Admit {
@@ -48,27 +51,25 @@ fn key_less(a: Key, b: Key) -> bool
     a.seq < b.seq
 }
 
-// Whether the row of a reference has this author and sequence.
-fn same_id(held: &[u8], batch: &[u8], k: u64, author: u64, seq: u64) -> bool
-    requires { ⌜ refOk (now held) (now batch) k ≡ true ⌝ }
-    ensures { λ r. ⌜ r ≡ idRef author seq (now (held .entry)) (now (batch .entry)) k ⌝ }
+// Whether the key at `at` has this author and sequence.
+fn same_id(keys: &[u64], at: usize, author: u64, seq: u64) -> bool
+    requires { ⌜ at + 5 ≤ length (now keys) ⌝ }
+    ensures { λ r. ⌜ ((held batch : List ℕ) (k : ℕ) → KeyOf (refRow held batch k) (keyAt (now (keys .entry)) at) → r ≡ idRef author seq held batch k) ⌝ }
 {
-    let key = load_key(held, batch, k);
-    if author != key.author {
+    if author != keys[at + 3] {
         return false;
     }
-    seq == key.seq
+    seq == keys[at + 4]
 }
 
 // The first of the n working rows with this author and sequence.
-fn seek(held: &[u8], batch: &[u8], scratch: &[u8], n: usize, author: u64, seq: u64) -> Found
-    requires { ⌜ Working (now held) (now batch) (now scratch) n ⌝ }
-    ensures { λ r. ⌜ r ≡ firstWhere (idRef author seq (now (held .entry)) (now (batch .entry))) (cells (now (scratch .entry)) 0 n) ⌝ }
+fn seek(keys: &[u64], n: usize, author: u64, seq: u64) -> Found
+    requires { ⌜ 5 * n ≤ length (now keys) ⌝ }
+    ensures { λ r. ⌜ ((held batch s : List ℕ) → Keyed held batch s (now (keys .entry)) n → r ≡ firstWhere (idRef author seq held batch) (cells s 0 n)) ⌝ }
 {
     let mut i: usize = 0;
     while i < n {
-        let k = get_word(scratch, 16 * i);
-        if same_id(held, batch, k, author, seq) {
+        if same_id(keys, 5 * i, author, seq) {
             return Found::At(i);
         }
         i += 1;
@@ -76,24 +77,24 @@ fn seek(held: &[u8], batch: &[u8], scratch: &[u8], n: usize, author: u64, seq: u
     Found::Nothing
 }
 
-// Whether a row goes before the row of a reference.
-fn goes_before(held: &[u8], batch: &[u8], k: u64, key: Key) -> bool
-    requires { ⌜ refOk (now held) (now batch) k ≡ true ⌝ }
-    ensures { λ r. ⌜ r ≡ beforeRef key (now (held .entry)) (now (batch .entry)) k ⌝ }
+// Whether a row goes before the row with the key at `at`.
+fn goes_before(keys: &[u64], at: usize, key: Key) -> bool
+    requires { ⌜ at + 5 ≤ length (now keys) ⌝ }
+    ensures { λ r. ⌜ ((held batch : List ℕ) (k : ℕ) → KeyOf (refRow held batch k) (keyAt (now (keys .entry)) at) → r ≡ beforeRef key held batch k) ⌝ }
 {
-    let other = load_key(held, batch, k);
+    let other = key_at(keys, at);
     key_less(key, other)
 }
 
 // How many of the n working rows stand before a row.
-fn place(held: &[u8], batch: &[u8], scratch: &[u8], n: usize, key: Key) -> usize
-    requires { ⌜ Working (now held) (now batch) (now scratch) n ⌝ }
-    ensures { λ r. ⌜ r ≡ placeIn n (firstWhere (beforeRef key (now (held .entry)) (now (batch .entry))) (cells (now (scratch .entry)) 0 n)) ⌝ }
+fn place(keys: &[u64], n: usize, key: Key) -> usize
+    requires { ⌜ 5 * n ≤ length (now keys) ⌝ }
+    ensures is { λ r. ⌜ ((held batch s : List ℕ) → Keyed held batch s (now (keys .entry)) n → r ≡ placeIn n (firstWhere (beforeRef key held batch) (cells s 0 n))) ⌝ }
+    ensures within { λ r. ⌜ r ≤ n ⌝ }
 {
     let mut i: usize = 0;
     while i < n {
-        let k = get_word(scratch, 16 * i);
-        if goes_before(held, batch, k, key) {
+        if goes_before(keys, 5 * i, key) {
             return i;
         }
         i += 1;
@@ -101,13 +102,14 @@ fn place(held: &[u8], batch: &[u8], scratch: &[u8], n: usize, key: Key) -> usize
     n
 }
 
-// Puts a reference in where its row goes.
-fn enter(held: &[u8], batch: &[u8], scratch: &mut [u8], n: usize, k: u64, key: Key)
-    requires { ⌜ Working (now held) (now batch) (now scratch) n × (refOk (now held) (now batch) k ≡ true) × KeyOf (refRow (now held) (now batch) k) key × (16 * n + 16 ≤ length (now scratch)) ⌝ }
-    ensures { λ _. ⌜ Puts (now (held .entry)) (now (batch .entry)) (now (scratch .entry)) (now (scratch .exit)) n k ⌝ }
+// Puts a reference and its key in where its row goes.
+fn enter(scratch: &mut [u8], keys: &mut [u64], n: usize, k: u64, key: Key)
+    requires { ⌜ (16 * n + 16 ≤ length (now scratch)) × (5 * n + 5 ≤ length (now keys)) ⌝ }
+    ensures { λ _. ⌜ ((held batch : List ℕ) → Entrant held batch (now (scratch .entry)) (now (keys .entry)) n k key → Puts held batch (now (scratch .entry)) (now (scratch .exit)) (now (keys .exit)) n k) ⌝ }
 {
-    let i = place(held, batch, scratch, n, key);
+    let i = place(keys, n, key);
     put_entry(scratch, n, i, k);
+    put_key(keys, n, i, key);
 }
 
 // The row at `at` of the batch.
@@ -115,14 +117,15 @@ pub(crate) fn admit_one(
     held: &[u8],
     batch: &[u8],
     scratch: &mut [u8],
+    keys: &mut [u64],
     n: usize,
     at: usize,
     authors: &[u64],
     numbers: &[u64],
     count: usize,
 ) -> Admit
-    requires { ⌜ Working (now held) (now batch) (now scratch) n × (isRead (readRow (now batch) at) ≡ true) × Clocked (now authors) (now numbers) count × (16 * n + 16 ≤ length (now scratch)) ⌝ }
-    ensures { λ r. ⌜ Admits (ticks (now (authors .entry)) (now (numbers .entry)) count) (now (held .entry)) (now (batch .entry)) (now (scratch .entry)) (now (scratch .exit)) n at r ⌝ }
+    requires { ⌜ Working (now held) (now batch) (now scratch) n × (isRead (readRow (now batch) at) ≡ true) × Clocked (now authors) (now numbers) count × (16 * n + 16 ≤ length (now scratch)) × Keyed (now held) (now batch) (now scratch) (now keys) n × (5 * n + 5 ≤ length (now keys)) ⌝ }
+    ensures { λ r. ⌜ Admits (ticks (now (authors .entry)) (now (numbers .entry)) count) (now (held .entry)) (now (batch .entry)) (now (scratch .entry)) (now (scratch .exit)) (now (keys .exit)) n at r ⌝ }
 {
     let row = read_row(batch, at);
     let reading = row.reading;
@@ -136,14 +139,14 @@ pub(crate) fn admit_one(
     if seq <= have {
         return Admit::Duplicate(next);
     }
-    let Found::At(j) = seek(held, batch, scratch, n, actor.0, seq) else {
+    let Found::At(j) = seek(keys, n, actor.0, seq) else {
         let stamp = op.timestamp;
         let key = Key {
             stamp: stamp,
             author: actor.0,
             seq: seq,
         };
-        enter(held, batch, scratch, n, (64 + at) as u64, key);
+        enter(scratch, keys, n, (64 + at) as u64, key);
         return Admit::Entered(next);
     };
     let k = get_word(scratch, 16 * j);

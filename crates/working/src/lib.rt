@@ -1,6 +1,7 @@
 // The merger's working rows, as references in the scratch area: expiry, admission, draining.
 mod contents; // whether two rows agree
 mod entering; // one row of the batch into the working rows
+mod keys; // the keys of the working rows
 mod looks; // looks at the row of a reference
 mod scratch; // the words of the scratch area
 mod ticking; // the clock that rows are drained by

@@ -3,6 +3,7 @@ use crate::Admitting;
 use crate::Draining;
 use crate::entering::Admit;
 use crate::entering::admit_one;
+use crate::keys::load_keys;
 use crate::looks::Found;
 use crate::looks::first_ready;
 use crate::looks::load_key;
@@ -29,6 +30,7 @@ ghost use Rattle.merging.specs.Batch.{readRows};
 ghost use Rattle.working.specs.Refs.{isRead};
 ghost use Rattle.working.specs.Promises.{Working, Unexpired, AdmitsAll, Drains};
 ghost use Rattle.working.specs.Ticks.{ticks, Clocked};
+ghost use Rattle.working.specs.Keys.{Keyed};
 
 // Step 1: the working references of the `count` held rows that arrived at cutoff or later; how many they are.
 pub fn unexpired(held: &[u8], scratch: &mut [u8], count: usize, cutoff: u64) -> usize
@@ -50,11 +52,12 @@ pub fn unexpired(held: &[u8], scratch: &mut [u8], count: usize, cutoff: u64) -> 
     n
 }
 
-// Admission by a clock that is lent as two rows, of which count are used.
+// Admission by a clock that is lent as two rows, of which count are used; the keys are those of the working rows.
 fn admit_by(
     held: &[u8],
     batch: &[u8],
     scratch: &mut [u8],
+    keys: &mut [u64],
     n: usize,
     first: usize,
     rows: usize,
@@ -62,7 +65,7 @@ fn admit_by(
     numbers: &[u64],
     count: usize,
 ) -> Admitting
-    requires { ⌜ Working (now held) (now batch) (now scratch) n × (isRead (readRows (now batch) rows first) ≡ true) × (n ≤ 64) × (rows ≤ 64) × (16 * (n + rows) ≤ length (now scratch)) × Clocked (now authors) (now numbers) count ⌝ }
+    requires { ⌜ Working (now held) (now batch) (now scratch) n × (isRead (readRows (now batch) rows first) ≡ true) × (n ≤ 64) × (rows ≤ 64) × (16 * (n + rows) ≤ length (now scratch)) × Clocked (now authors) (now numbers) count × Keyed (now held) (now batch) (now scratch) (now keys) n × (5 * (n + rows) ≤ length (now keys)) ⌝ }
     ensures { λ r. ⌜ ((time : ℕ) (bs : List BatchRow) (end : ℕ) → readRows (now (batch .entry)) rows first ≡ got bs end → AdmitsAll (ticks (now (authors .entry)) (now (numbers .entry)) count) (now (held .entry)) (now (batch .entry)) time (now (scratch .entry)) (now (scratch .exit)) n bs r) ⌝ }
 {
     let mut left = n;
@@ -70,7 +73,17 @@ fn admit_by(
     let mut at = first;
     let mut i: usize = 0;
     while i < rows {
-        let answer = admit_one(held, batch, scratch, left, at, authors, numbers, count);
+        let answer = admit_one(
+            held,
+            batch,
+            scratch,
+            keys,
+            left,
+            at,
+            authors,
+            numbers,
+            count,
+        );
         match answer {
             Admit::Duplicate(next) => {
                 duplicates += 1;
@@ -114,10 +127,13 @@ pub fn admit_all(
     let mut authors = [0u64; 32];
     let mut numbers = [0u64; 32];
     let count = start_clock(head, &mut authors, &mut numbers);
+    let mut keys = [0u64; 640];
+    load_keys(held, batch, scratch, n, &mut keys);
     admit_by(
         held,
         batch,
         scratch,
+        &mut keys,
         n,
         first,
         rows,

@@ -18,13 +18,13 @@ enum-told : tie.Need-enum-told
 enum-told c = search needs
 
 returns : tie.Need-returns
-returns c = absurd (read-not _ _ _ (c .before .before .read-row .ensures) _ (c .before .before .before .before .before .before .before .before .pre .1) (c .enum-told .given .1))
+returns c = absurd (read-not _ _ _ (c .before .before .read-row .ensures) _ (c .before .before .before .before .before .before .before .before .before .pre .1) (c .enum-told .given .1))
 
 clock-get-requires : tie.Need-clock-get-requires
 clock-get-requires c κs = search needs
 
 returns-2 : tie.Need-returns-2
-returns-2 c = admit-old _ _ _ _ _ _ _ _ (c .before .before .before .before .before .before .before .read-row .ensures) _ (c .before .before .before .before .before .reading .given .1) _ (c .before .clock-get .ensures) (c .if1 .taken) refl
+returns-2 c = admit-old _ _ _ _ _ _ _ _ _ (c .before .before .before .before .before .before .before .read-row .ensures) _ (c .before .before .before .before .before .reading .given .1) _ (c .before .clock-get .ensures) (c .if1 .taken) refl (c .before .before .before .before .before .before .before .before .before .before .before .before .before .before .pre .4)
 
 seek-requires : tie.Need-seek-requires
 seek-requires c κs = search needs
@@ -36,37 +36,46 @@ enum-told-2 : tie.Need-enum-told-2
 enum-told-2 c = search needs
 
 add-enter : tie.Need-add-enter
-add-enter c = omega (arith, read-inside (c .before .before .before .before .before .before .before .before .before .before .before .before .before .before .before .before .before .before .before .args .batch .now) (c .before .before .before .before .before .before .before .before .before .before .before .before .before .before .before .before .before .before .before .args .at) (c .before .before .before .before .before .before .before .before .before .before .before .before .before .before .before .before .before .before .before .pre .1), c .before .before .before .before .before .before .before .before .before .before .before .before .before .before .before .before .before .before .before .good .1 .0 .1)
+add-enter c = omega (arith, read-inside (c .before .before .before .before .before .before .before .before .before .before .before .before .before .before .before .before .before .before .before .before .before .args .batch .now) (c .before .before .before .before .before .before .before .before .before .before .before .before .before .before .before .before .before .before .before .before .before .args .at) (c .before .before .before .before .before .before .before .before .before .before .before .before .before .before .before .before .before .before .before .before .before .pre .1), c .before .before .before .before .before .before .before .before .before .before .before .before .before .before .before .before .before .before .before .before .before .good .1 .0 .1)
 
 enter-requires : tie.Need-enter-requires
-enter-requires c κs = (c .before .before .before .before .before .before .before .before .before .before .before .before .before .before .before .before .before .before .before .pre .0, ref-read _ _ _ _ (c .before .before .before .before .before .before .before .before .before .before .before .before .before .read-row .ensures) _ (c .before .before .before .before .before .before .before .before .before .before .before .reading .given .1), key-read _ _ _ _ (c .before .before .before .before .before .before .before .before .before .before .before .before .before .read-row .ensures) _ (c .before .before .before .before .before .before .before .before .before .before .before .reading .given .1), c .before .before .before .before .before .before .before .before .before .before .before .before .before .before .before .before .before .before .before .pre .3)
+enter-requires c κs = (c .before .before .before .before .before .before .before .before .before .before .before .before .before .before .before .before .before .before .before .before .before .pre .3, c .before .before .before .before .before .before .before .before .before .before .before .before .before .before .before .before .before .before .before .before .before .pre .5)
 
 same-length : tie.Need-same-length
 same-length c = search needs
 
-returns-3 : tie.Need-returns-3
-returns-3 c = admit-new _ _ _ _ _ _ _ _ (c .before .before .before .before .before .before .before .before .before .before .before .before .before .before .before .before .read-row .ensures) _ (c .before .before .before .before .before .before .before .before .before .before .before .before .before .before .reading .given .1) _ (c .before .before .before .before .before .before .before .before .before .before .clock-get .ensures) (c .before .before .before .before .before .before .before .before .before .if1 .left) (sym (c .before .before .before .before .before .enum-told2 .given .1) ∙ c .before .before .before .before .before .before .before .seek .ensures) (c .before .before .enter .ensures)
-
-mul-get-word : tie.Need-mul-get-word
-mul-get-word c = omega (arith, found-below _ _ _ _ (sym (c .before .before .j .given .1) ∙ c .before .before .before .before .seek .ensures), c .before .before .before .before .before .before .before .before .before .before .before .before .before .before .before .before .before .before .before .good .1 .1 .0 .1)
-
-get-word-requires : tie.Need-get-word-requires
-get-word-requires c κs = omega (arith, found-below _ _ _ _ (sym (c .before .before .j .given .1) ∙ c .before .before .before .before .seek .ensures))
-
-same-ref-requires : tie.Need-same-ref-requires
-same-ref-requires c κs = (ref-there _ _ _ _ _ _ (refs-of _ _ _ (c .before .before .before .before .before .before .before .before .before .before .before .before .before .before .before .before .before .before .before .before .pre .0 .refs)) (found-below _ _ _ _ (sym (c .before .before .before .j .given .1) ∙ c .before .before .before .before .before .seek .ensures)) (c .get-word .ensures), c .before .before .before .before .before .before .before .before .before .before .before .before .before .before .read-row .ensures .fits _ (c .before .before .before .before .before .before .before .before .before .before .before .before .reading .given .1))
-
 same-length-2 : tie.Need-same-length-2
 same-length-2 c = search needs
 
-returns-4 : tie.Need-returns-4
-returns-4 c = admit-same _ _ _ _ _ _ _ _ (c .before .before .before .before .before .before .before .before .before .before .before .before .before .before .before .before .read-row .ensures) _ (c .before .before .before .before .before .before .before .before .before .before .before .before .before .before .reading .given .1) _ (c .before .before .before .before .before .before .before .before .before .before .clock-get .ensures) (c .before .before .before .before .before .before .before .before .before .if1 .left) _ _ (sym (c .before .before .before .before .before .j .given .1) ∙ c .before .before .before .before .before .before .before .seek .ensures) (c .before .before .get-word .ensures) _ (c .before .same-ref .ensures) (c .if2 .taken) refl
+returns-3 : tie.Need-returns-3
+returns-3 c = admit-new _ _ _ _ _ _ _ _ _ (c .before .before .before .before .before .before .before .before .before .before .before .before .before .before .before .before .before .before .before .read-row .ensures) _ (c .before .before .before .before .before .before .before .before .before .before .before .before .before .before .before .before .before .reading .given .1) _ (c .before .before .before .before .before .before .before .before .before .before .before .before .before .clock-get .ensures) (c .before .before .before .before .before .before .before .before .before .before .before .before .if1 .left) (sym (c .before .before .before .before .before .before .before .before .enum-told2 .given .1) ∙ c .before .before .before .before .before .before .before .before .before .before .seek .ensures _ _ _ (c .before .before .before .before .before .before .before .before .before .before .before .before .before .before .before .before .before .before .before .before .before .before .before .before .before .before .pre .4)) (c .before .before .before .before .enter .ensures _ _ (record { refs = c .before .before .before .before .before .before .before .before .before .before .before .before .before .before .before .before .before .before .before .before .before .before .before .before .before .before .pre .0 .refs; keyed = c .before .before .before .before .before .before .before .before .before .before .before .before .before .before .before .before .before .before .before .before .before .before .before .before .before .before .pre .4; ok = ref-read _ _ _ _ (c .before .before .before .before .before .before .before .before .before .before .before .before .before .before .before .before .before .before .before .read-row .ensures) _ (c .before .before .before .before .before .before .before .before .before .before .before .before .before .before .before .before .before .reading .given .1); own = key-read _ _ _ _ (c .before .before .before .before .before .before .before .before .before .before .before .before .before .before .before .before .before .before .before .read-row .ensures) _ (c .before .before .before .before .before .before .before .before .before .before .before .before .before .before .before .before .before .reading .given .1) }))
+
+mul-get-word : tie.Need-mul-get-word
+mul-get-word c = omega (arith, found-below _ _ _ _ (sym (c .before .before .j .given .1) ∙ c .before .before .before .before .seek .ensures _ _ _ (c .before .before .before .before .before .before .before .before .before .before .before .before .before .before .before .before .before .before .before .before .pre .4)), c .before .before .before .before .before .before .before .before .before .before .before .before .before .before .before .before .before .before .before .before .good .1 .1 .0 .1)
+
+get-word-requires : tie.Need-get-word-requires
+get-word-requires c κs = omega (arith, found-below _ _ _ _ (sym (c .before .before .j .given .1) ∙ c .before .before .before .before .seek .ensures _ _ _ (c .before .before .before .before .before .before .before .before .before .before .before .before .before .before .before .before .before .before .before .before .pre .4)), c .before .before .before .before .before .before .before .before .before .before .before .before .before .before .before .before .before .before .before .before .pre .0 .room)
+
+same-ref-requires : tie.Need-same-ref-requires
+same-ref-requires c κs = (ref-there _ _ _ _ _ _ (refs-of _ _ _ (c .before .before .before .before .before .before .before .before .before .before .before .before .before .before .before .before .before .before .before .before .before .pre .0 .refs)) (found-below _ _ _ _ (sym (c .before .before .before .j .given .1) ∙ c .before .before .before .before .before .seek .ensures _ _ _ (c .before .before .before .before .before .before .before .before .before .before .before .before .before .before .before .before .before .before .before .before .before .pre .4))) (c .get-word .ensures), c .before .before .before .before .before .before .before .before .before .before .before .before .before .before .read-row .ensures .fits _ (c .before .before .before .before .before .before .before .before .before .before .before .before .reading .given .1))
 
 same-length-3 : tie.Need-same-length-3
 same-length-3 c = search needs
 
+same-length-4 : tie.Need-same-length-4
+same-length-4 c = search needs
+
+returns-4 : tie.Need-returns-4
+returns-4 c = admit-same _ _ _ _ _ _ _ _ _ (c .before .before .before .before .before .before .before .before .before .before .before .before .before .before .before .before .read-row .ensures) _ (c .before .before .before .before .before .before .before .before .before .before .before .before .before .before .reading .given .1) _ (c .before .before .before .before .before .before .before .before .before .before .clock-get .ensures) (c .before .before .before .before .before .before .before .before .before .if1 .left) _ _ (sym (c .before .before .before .before .before .j .given .1) ∙ c .before .before .before .before .before .before .before .seek .ensures _ _ _ (c .before .before .before .before .before .before .before .before .before .before .before .before .before .before .before .before .before .before .before .before .before .before .before .pre .4)) (c .before .before .get-word .ensures) _ (c .before .same-ref .ensures) (c .if2 .taken) refl (c .before .before .before .before .before .before .before .before .before .before .before .before .before .before .before .before .before .before .before .before .before .before .before .pre .4)
+
+same-length-5 : tie.Need-same-length-5
+same-length-5 c = search needs
+
+same-length-6 : tie.Need-same-length-6
+same-length-6 c = search needs
+
 returns-5 : tie.Need-returns-5
-returns-5 c = admit-other _ _ _ _ _ _ _ _ (c .before .before .before .before .before .before .before .before .before .before .before .before .before .before .before .before .read-row .ensures) _ (c .before .before .before .before .before .before .before .before .before .before .before .before .before .before .reading .given .1) _ (c .before .before .before .before .before .before .before .before .before .before .clock-get .ensures) (c .before .before .before .before .before .before .before .before .before .if1 .left) _ _ (sym (c .before .before .before .before .before .j .given .1) ∙ c .before .before .before .before .before .before .before .seek .ensures) (c .before .before .get-word .ensures) _ (c .before .same-ref .ensures) (c .if2 .left)
+returns-5 c = admit-other _ _ _ _ _ _ _ _ _ (c .before .before .before .before .before .before .before .before .before .before .before .before .before .before .before .before .read-row .ensures) _ (c .before .before .before .before .before .before .before .before .before .before .before .before .before .before .reading .given .1) _ (c .before .before .before .before .before .before .before .before .before .before .clock-get .ensures) (c .before .before .before .before .before .before .before .before .before .if1 .left) _ _ (sym (c .before .before .before .before .before .j .given .1) ∙ c .before .before .before .before .before .before .before .seek .ensures _ _ _ (c .before .before .before .before .before .before .before .before .before .before .before .before .before .before .before .before .before .before .before .before .before .before .before .pre .4)) (c .before .before .get-word .ensures) _ (c .before .same-ref .ensures) (c .if2 .left)
 
 pub admit-one-spec : {M : Type 1} → statement M
 admit-one-spec =
@@ -84,11 +93,14 @@ admit-one-spec =
     add-enter
     enter-requires
     same-length
+    same-length-2
     returns-3
     mul-get-word
     get-word-requires
     same-ref-requires
-    same-length-2
-    returns-4
     same-length-3
+    same-length-4
+    returns-4
+    same-length-5
+    same-length-6
     returns-5)

@@ -1,6 +1,5 @@
-use Prim.Native.Nat.{_-_}
 use native.Mathlib.Omega.{arith}
-use Rattle.working.proofs.Enter.{place-below, puts}
+use Rattle.working.proofs.Enter.{puts}
 use borrow.Author.Needs.{needs}
 use Rattle.working.proofs.entering.enter.Statement.{statement}
 use Rattle.working.proofs.entering.enter.Tie as tie
@@ -9,13 +8,21 @@ place-requires : tie.Need-place-requires
 place-requires c κs = search needs
 
 put-entry-requires : tie.Need-put-entry-requires
-put-entry-requires c κs = (place-below _ _ _ _ (c .before .place .ensures), omega arith)
+put-entry-requires c κs = search needs
+
+put-key-requires : tie.Need-put-key-requires
+put-key-requires c κs = search needs
 
 same-length : tie.Need-same-length
 same-length c = search needs
 
+same-length-2 : tie.Need-same-length-2
+same-length-2 c = search needs
+
 returns : tie.Need-returns
-returns c = puts _ _ _ _ _ _ _ _ (c .before .before .before .before .before .before .before .before .before .pre .2) (c .before .before .before .before .before .before .before .before .before .pre .1) (c .before .before .before .before .before .before .before .before .before .pre .0 .refs) (c .before .before .before .before .place .ensures) (c .before .before .put-entry .ensures)
+returns c = λ held batch x. puts held batch _ _ _ _ _ _ _ _ x (c .before .before .before .before .before .before .before .before .place .ensures .0 held batch _ (x .keyed)) (c .before .before .before .before .before .before .before .before .place .ensures .1) (c .before .before .before .before .before .before .put-entry .ensures) (c .before .before .put-key .ensures) (omega arith)
 
 pub enter-spec : {M : Type 1} → statement M
-enter-spec = tie.close (tie.spec place-requires put-entry-requires same-length returns)
+enter-spec =
+    tie.close
+    (tie.spec place-requires put-entry-requires put-key-requires same-length same-length-2 returns)

@@ -1,33 +1,32 @@
 use borrow.Author.Needs.{needs}
-use Prim.Native.Nat.{_-_, _≤_}
+use Prim.Native.Nat.{ℕ, _-_, _≤_}
+use mathlib.Core.Path.{refl}
+use mathlib.Core.List.{List}
 use native.Mathlib.Omega.{arith}
+use Rattle.working.specs.Keys.{Keyed}
 use Rattle.working.specs.Looks.{beforeRef}
-use Rattle.working.proofs.Cells.{refs-of, ref-there}
 use Rattle.working.proofs.Enter.{found-place, none-place}
 use Rattle.working.proofs.Searching.{LeftFirst, first-start, first-here, first-turn, first-end}
 use Rattle.working.proofs.entering.place.Statement.{statement}
 use Rattle.working.proofs.entering.place.Tie as tie
 
 abbrev Inv-loop : tie.InvT-loop
-Inv-loop held batch scratch n key i₀ i = (i ≤ n) × LeftFirst (beforeRef key held batch) scratch n i
+Inv-loop keys n key i₀ i = (i ≤ n) × ((held batch s : List ℕ) → Keyed held batch s keys n → LeftFirst (beforeRef key held batch) s n i)
 
 abbrev μ-loop : tie.MeasureT-loop
-μ-loop held batch scratch n key i₀ i = n - i
+μ-loop keys n key i₀ i = n - i
 
 loop-holds : tie.Need-loop-holds Inv-loop μ-loop
-loop-holds c = (search needs, first-start _ _ _)
+loop-holds c = (search needs, λ held batch s g. first-start _ _ _)
 
-mul-get-word : tie.Need-mul-get-word Inv-loop μ-loop
-mul-get-word c = search needs
-
-get-word-requires : tie.Need-get-word-requires Inv-loop μ-loop
-get-word-requires c κs = search needs
+mul-goes-before : tie.Need-mul-goes-before Inv-loop μ-loop
+mul-goes-before c = search needs
 
 goes-before-requires : tie.Need-goes-before-requires Inv-loop μ-loop
-goes-before-requires c κs = ref-there _ _ _ _ _ _ (refs-of _ _ _ (c .before .before .before .before .before .before .pre .refs)) (search needs) (c .get-word .ensures)
+goes-before-requires c κs = search needs
 
 returns : tie.Need-returns Inv-loop μ-loop
-returns c = found-place _ _ _ (first-here _ _ _ _ _ _ (search needs) (c .before .before .get-word .ensures) (c .before .goes-before .ensures) (c .if1 .taken) (c .before .before .before .before .loop .inv .1))
+returns c = (λ held batch s g. found-place _ _ _ (first-here _ _ _ _ _ _ (search needs) refl (c .before .goes-before .ensures held batch _ (g .keys _ (search needs))) (c .if1 .taken) (c .before .before .before .loop .inv .1 held batch s g)), search needs)
 
 add-i : tie.Need-add-i Inv-loop μ-loop
 add-i c = search needs
@@ -36,10 +35,10 @@ loop-less : tie.Need-loop-less Inv-loop μ-loop
 loop-less c = search needs
 
 loop-again : tie.Need-loop-again Inv-loop μ-loop
-loop-again c = (search needs, first-turn _ _ _ _ _ _ (search needs) (c .before .before .get-word .ensures) (c .before .goes-before .ensures) (c .if1 .left) (c .before .before .before .before .loop .inv .1))
+loop-again c = (search needs, λ held batch s g. first-turn _ _ _ _ _ _ (search needs) refl (c .before .goes-before .ensures held batch _ (g .keys _ (search needs))) (c .if1 .left) (c .before .before .before .loop .inv .1 held batch s g))
 
 returns-2 : tie.Need-returns-2 Inv-loop μ-loop
-returns-2 c = none-place _ _ (first-end _ _ _ (c .before .loop .i) (omega arith) (c .before .loop .inv .1))
+returns-2 c = (λ held batch s g. none-place _ _ (first-end _ _ _ (c .before .loop .i) (omega arith) (c .before .loop .inv .1 held batch s g)), search needs)
 
 pub place-spec : {M : Type 1} → statement M
 place-spec =
@@ -48,8 +47,7 @@ place-spec =
     Inv-loop
     μ-loop
     loop-holds
-    mul-get-word
-    get-word-requires
+    mul-goes-before
     goes-before-requires
     returns
     add-i

@@ -1,17 +1,44 @@
-use Prim.Native.Nat.{_-_}
+use Rattle.working.specs.Keys.{keyAt}
 use Rattle.working.proofs.Same.{id-author, id-seq}
 use borrow.Author.Needs.{needs}
 use Rattle.working.proofs.entering.same_id.Statement.{statement}
 use Rattle.working.proofs.entering.same_id.Tie as tie
 
-load-key-requires : tie.Need-load-key-requires
-load-key-requires c κs = search needs
+add-if1 : tie.Need-add-if1
+add-if1 c = search needs
+
+mul-if1 : tie.Need-mul-if1
+mul-if1 c = search needs
+
+shared-slice-read-if1 : tie.Need-shared-slice-read-if1
+shared-slice-read-if1 c = search needs
 
 returns : tie.Need-returns
-returns c = id-author _ _ _ _ (c .before .before .load-key .ensures) _ _ (c .if1 .taken)
+unfolding keyAt
+returns c = λ held batch k o. id-author held batch k _ o _ _ (c .if1 .taken)
+
+add-result : tie.Need-add-result
+add-result c = search needs
+
+mul-result : tie.Need-mul-result
+mul-result c = search needs
+
+shared-slice-read-result : tie.Need-shared-slice-read-result
+shared-slice-read-result c = search needs
 
 returns-2 : tie.Need-returns-2
-returns-2 c = id-seq _ _ _ _ (c .before .before .before .load-key .ensures) _ _ (c .before .if1 .left)
+unfolding keyAt
+returns-2 c = λ held batch k o. id-seq held batch k _ o _ _ (c .before .if1 .left)
 
 pub same-id-spec : {M : Type 1} → statement M
-same-id-spec = tie.close (tie.spec load-key-requires returns returns-2)
+same-id-spec =
+    tie.close
+    (tie.spec
+    add-if1
+    mul-if1
+    shared-slice-read-if1
+    returns
+    add-result
+    mul-result
+    shared-slice-read-result
+    returns-2)

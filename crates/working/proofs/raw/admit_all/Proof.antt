@@ -1,4 +1,3 @@
-use Prim.Native.Nat.{_-_}
 use Rattle.working.proofs.Batches.{admits-by}
 use borrow.Author.Needs.{needs}
 use Rattle.working.proofs.raw.admit_all.Statement.{statement}
@@ -13,20 +12,29 @@ slice-aggregate-start-clock-2 c = search needs
 start-clock-requires : tie.Need-start-clock-requires
 start-clock-requires c κs = search needs
 
+slice-aggregate-load-keys : tie.Need-slice-aggregate-load-keys
+slice-aggregate-load-keys c = search needs
+
+load-keys-requires : tie.Need-load-keys-requires
+load-keys-requires c κs = search needs
+
 slice-aggregate-admit-by : tie.Need-slice-aggregate-admit-by
 slice-aggregate-admit-by c = search needs
 
 slice-aggregate-admit-by-2 : tie.Need-slice-aggregate-admit-by-2
 slice-aggregate-admit-by-2 c = search needs
 
+slice-aggregate-admit-by-3 : tie.Need-slice-aggregate-admit-by-3
+slice-aggregate-admit-by-3 c = search needs
+
 admit-by-requires : tie.Need-admit-by-requires
-admit-by-requires c κs = search needs
+admit-by-requires c κs = (c .before .before .before .before .before .before .before .before .before .before .before .before .before .before .before .before .before .pre .0, c .before .before .before .before .before .before .before .before .before .before .before .before .before .before .before .before .before .pre .1, c .before .before .before .before .before .before .before .before .before .before .before .before .before .before .before .before .before .pre .2, c .before .before .before .before .before .before .before .before .before .before .before .before .before .before .before .before .before .pre .3, c .before .before .before .before .before .before .before .before .before .before .before .before .before .before .before .before .before .pre .4, c .before .before .before .before .before .before .before .before .before .before .start-clock .ensures .1 .0, c .before .before .before .before .before .load-keys .ensures, search needs)
 
 same-length : tie.Need-same-length
 same-length c = search needs
 
 returns : tie.Need-returns
-returns c = λ time bs end e. admits-by (c .before .before .before .before .before .before .before .before .start-clock .ensures .0) (c .before .before .admit-by .ensures time bs end e)
+returns c = λ time bs end e. admits-by (c .before .before .before .before .before .before .before .before .before .before .before .before .before .before .start-clock .ensures .0) (c .before .before .before .admit-by .ensures time bs end e)
 
 pub admit-all-spec : {M : Type 1} → statement M
 admit-all-spec =
@@ -35,8 +43,11 @@ admit-all-spec =
     slice-aggregate-start-clock
     slice-aggregate-start-clock-2
     start-clock-requires
+    slice-aggregate-load-keys
+    load-keys-requires
     slice-aggregate-admit-by
     slice-aggregate-admit-by-2
+    slice-aggregate-admit-by-3
     admit-by-requires
     same-length
     returns)
