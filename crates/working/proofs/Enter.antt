@@ -24,7 +24,7 @@ use Rattle.row.specs.declared.Reading.the-variants as ended
 use Rattle.row.specs.declared.RowRead.{RowRead}
 use Rattle.log.specs.Store.{sameId}
 use Rattle.merging.specs.Merging.{sameContent, Known, absent, present, lookBy, look, enterBy, enter, arrived, Admitted, duplicate, whenKnown, admit}
-use Rattle.working.specs.Refs.{isRead, arrivedBy, refOk, refsOk, workRow, workRows, cells}
+use Rattle.working.specs.Refs.{isRead, arrivedBy, refOk, workRow, workRows, cells}
 use Rattle.working.specs.Columns.{insAt, PutIn}
 use Rattle.working.specs.Looks.{refRow, batchRowAt, KeyOf, idRef, beforeRef, later, firstBy, firstWhere, placeIn}
 use Rattle.working.specs.Keys.{KeyIn, Keyed}

@@ -1,7 +1,7 @@
 -- The keys of the working rows: one written, one put in, all of them loaded. Assumes nothing.
 use Prim.Native.Nat.{ℕ, zero, suc, _+_, _-_, _*_, _%_, _≤_, _<_}
 use mathlib.Core.Path.{_≡_, refl, sym, _∙_, ap}
-use mathlib.Core.Logic.{_⊎_, inl, inr}
+use mathlib.Core.Logic.{inl, inr}
 use mathlib.Core.List.{List, [], _∷_}
 use native.Mathlib.Omega.{arith}
 use native.Mathlib.Nat.{add-zero}
@@ -35,8 +35,11 @@ module _ (s : List ℕ) (at : ℕ) (key : Key) (h : at + 5 ≤ length s) where
   abbrev five : List ℕ
   five = key .stamp .«wall_time» ∷ key .stamp .«logical_counter» ∷ key .stamp .«actor_id» .0 ∷ key .author ∷ key .seq ∷ []
 
-  stores : set (set (set (set (set s at (key .stamp .«wall_time»)) (at + 1) (key .stamp .«logical_counter»)) (at + 2) (key .stamp .«actor_id» .0)) (at + 3) (key .author)) (at + 4) (key .seq)
-      ≡ putAt s at five
+  abbrev pub written : List ℕ
+  written =
+      set (set (set (set (set s at (key .stamp .«wall_time»)) (at + 1) (key .stamp .«logical_counter»)) (at + 2) (key .stamp .«actor_id» .0)) (at + 3) (key .author)) (at + 4) (key .seq)
+
+  stores : written ≡ putAt s at five
   unfolding putAt
   stores =
       let e1 : at + 1 ≡ suc at = omega arith in
@@ -58,8 +61,7 @@ module _ (s : List ℕ) (at : ℕ) (key : Key) (h : at + 5 ≤ length s) where
         ];
       }
 
-  pub key-written : key .stamp .«logical_counter» < 4294967296
-      → KeyWritten s (set (set (set (set (set s at (key .stamp .«wall_time»)) (at + 1) (key .stamp .«logical_counter»)) (at + 2) (key .stamp .«actor_id» .0)) (at + 3) (key .author)) (at + 4) (key .seq)) at key
+  pub key-written : key .stamp .«logical_counter» < 4294967296 → KeyWritten s written at key
   key-written l = rw stores (put-five l)
 
 -- ---- a key put in: what stands below the gap at j, and what moved up past it, are what stood there
