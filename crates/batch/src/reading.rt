@@ -4,7 +4,7 @@ use crate::MergeLimits;
 use crate::limits::validated;
 use clock::vector::Outcome;
 use codec::NumberRead;
-use codec::get_varint;
+use codec::reader::get_varint;
 use error::Refusal;
 use row::Reading;
 use row::reader::read_row;
