@@ -19,7 +19,7 @@ use Rattle.log.specs.declared.ClockAnswer.{ClockAnswer}
 use Rattle.log.specs.declared.Place.{Place}
 use Rattle.log.specs.declared.Place.the-variants as place
 use Rattle.log.specs.Areas.{Areas}
-use Rattle.log.specs.Calls.{Found, payloadOf}
+use Rattle.log.specs.Calls.{Found, payloadAt}
 use Rattle.log.specs.Views.{ClockIs, placeOf, Leaves}
 use Rattle.log.specs.Calls.{compactCall}
 use Rattle.clock.specs.declared.stamp.Timestamp.{Timestamp}
@@ -58,11 +58,11 @@ clock-short s answer told h q = record { answer-is = rw (lt-leb 520 (length s) h
 
 -- what a lookup finds
 module _ (a : Areas) (f : Answer Found) (r : Place) (t : LookupTold) (e : placeOf r ≡ f) where
-  pub found-logged : (i len : ℕ) (part : List ℕ) → r ≡ place.Logged i → part ≡ payloadOf a f → len ≡ length part
+  pub found-logged : (i len : ℕ) (part : List ℕ) → r ≡ place.Logged i → part ≡ payloadAt (a .log) i → len ≡ length part
       → t ≡ record { told = accepted; place = 1; slot = i; len = len } → t ≡ lookupTold a f
   found-logged i len part g p l q = q ∙ rw (l, p, ← e, g) refl
 
-  pub found-held : (i len : ℕ) (part : List ℕ) → r ≡ place.Held i → part ≡ payloadOf a f → len ≡ length part
+  pub found-held : (i len : ℕ) (part : List ℕ) → r ≡ place.Held i → part ≡ payloadAt (a .held) i → len ≡ length part
       → t ≡ record { told = accepted; place = 2; slot = i; len = len } → t ≡ lookupTold a f
   found-held i len part g p l q = q ∙ rw (l, p, ← e, g) refl
 

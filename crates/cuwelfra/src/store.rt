@@ -205,9 +205,9 @@ fn found(place: u64, slot: usize, len: usize) -> LookupTold
 
 // Where a row stands: 0 absent, 1 logged, 2 held, with its slot and the length of its payload, which stands at 384 in the slot.
 #[no_mangle]
-pub extern "C" fn cuwelfra_lookup<'a>(
-    rows: &'a [u8],
-    held: &'a [u8],
+pub extern "C" fn cuwelfra_lookup(
+    rows: &[u8],
+    held: &[u8],
     head: &[u8],
     actor: u64,
     seq: u64,
@@ -217,11 +217,11 @@ pub extern "C" fn cuwelfra_lookup<'a>(
     let place = log::lookup::find(rows, held, head, ActorId(actor), seq);
     match place {
         Place::Logged(i) => {
-            let payload = log::lookup::lookup(rows, held, head, ActorId(actor), seq);
+            let payload = log::raw::payload(rows, i);
             found(1, i, payload.len())
         }
         Place::Held(i) => {
-            let payload = log::lookup::lookup(rows, held, head, ActorId(actor), seq);
+            let payload = log::raw::payload(held, i);
             found(2, i, payload.len())
         }
         Place::Absent => found(0, 0, 0),

@@ -1,5 +1,9 @@
 use mathlib.Core.Path.{_≡_, _∙_, ap, sym, refl}
 use Rattle.cuwelfra.proofs.StoreLaws.{found-logged, found-held, found-absent, found-refused}
+use denote.Ref.{now}
+use Rattle.log.specs.Areas.{areas}
+use Rattle.log.specs.Views.{placeOf}
+use Rattle.log.proofs.Asked.{logged-there, held-there}
 use borrow.Author.Needs.{needs}
 use Rattle.cuwelfra.proofs.store.cuwelfra_lookup.Statement.{statement}
 use Rattle.cuwelfra.proofs.store.cuwelfra_lookup.Tie as tie
@@ -8,7 +12,7 @@ use Rattle.cuwelfra.proofs.store.cuwelfra_lookup.Lts as lts
 use Rattle.cuwelfra.proofs.store.found.Reads as found-reads
 use Rattle.error.proofs.tell.Reads as tell-reads
 use Rattle.log.proofs.lookup.find.Reads as find-reads
-use Rattle.log.proofs.lookup.lookup.Reads as lookup-reads
+use Rattle.log.proofs.raw.payload.Reads as payload-reads
 
 -- src/store.rt:217:9
 find-requires : tie.Need-find-requires
@@ -19,8 +23,8 @@ enum-known-place : tie.Need-enum-known-place
 enum-known-place c = search needs
 
 -- src/store.rt:220:17
-lookup-requires : tie.Need-lookup-requires
-lookup-requires c κs = search needs
+payload-requires : tie.Need-payload-requires
+payload-requires c κs = logged-there (areas (now (c .before .before .before .before .before .before .before .args .rows)) (now (c .before .before .before .before .before .before .before .args .held)) (now (c .before .before .before .before .before .before .before .args .head))) _ _ _ (sym (ap placeOf (c .before .place .given .1)) ∙ c .before .before .before .find .ensures)
 
 -- src/store.rt:221:13
 found-requires : tie.Need-found-requires
@@ -31,8 +35,8 @@ enum-known-place-2 : tie.Need-enum-known-place-2
 enum-known-place-2 c = search needs
 
 -- src/store.rt:224:17
-lookup-requires-2 : tie.Need-lookup-requires-2
-lookup-requires-2 c κs = search needs
+payload-requires-2 : tie.Need-payload-requires-2
+payload-requires-2 c κs = held-there (areas (now (c .before .before .before .before .before .before .before .args .rows)) (now (c .before .before .before .before .before .before .before .args .held)) (now (c .before .before .before .before .before .before .before .args .head))) _ _ _ (sym (ap placeOf (c .before .place2 .given .1)) ∙ c .before .before .before .find .ensures)
 
 -- src/store.rt:225:13
 found-requires-2 : tie.Need-found-requires-2
@@ -56,11 +60,11 @@ tell-requires c κs = search needs
 
 -- src/store.rt:207:1
 returns : tie.Need-returns
-returns c = found-logged _ _ _ _ (c .before .before .before .before .before .find .ensures) _ _ _ (c .before .before .before .place .given .1) (c .before .lookup .ensures) refl (c .found .ensures)
+returns c = found-logged _ _ _ _ (c .before .before .before .before .before .find .ensures) _ _ _ (c .before .before .before .place .given .1) (c .before .payload .ensures) refl (c .found .ensures)
 
 -- src/store.rt:207:1
 returns-2 : tie.Need-returns-2
-returns-2 c = found-held _ _ _ _ (c .before .before .before .before .before .find .ensures) _ _ _ (c .before .before .before .place2 .given .1) (c .before .lookup2 .ensures) refl (c .found2 .ensures)
+returns-2 c = found-held _ _ _ _ (c .before .before .before .before .before .find .ensures) _ _ _ (c .before .before .before .place2 .given .1) (c .before .payload2 .ensures) refl (c .found2 .ensures)
 
 -- src/store.rt:207:1
 returns-3 : tie.Need-returns-3
@@ -76,10 +80,10 @@ cuwelfra-lookup-spec =
     (tie.spec
     find-requires
     enum-known-place
-    lookup-requires
+    payload-requires
     found-requires
     enum-known-place-2
-    lookup-requires-2
+    payload-requires-2
     found-requires-2
     enum-told
     found-requires-3
