@@ -5,6 +5,7 @@ use clock::vector::Outcome;
 use error::Refusal;
 use row::Deps;
 use row::StampedOperation;
+use stubs::ActorId;
 ghost use mathlib.Core.Path.{_≡_};
 ghost use Prim.Native.Nat.{_≤_};
 ghost use Rattle.clock.specs.Vector.{outcomeOf};
@@ -14,14 +15,14 @@ ghost use Rattle.batch.specs.Views.{limitsOf};
 ghost use Rattle.batch.specs.Promises.{Validates, GoesOn};
 
 // Whether a dependency on the row's own author is not below its sequence.
-fn own_future(d: Deps, author: u64, seq: u64) -> bool
+fn own_future(d: Deps, actor: ActorId, seq: u64) -> bool
     requires { ⌜ d .count ≤ 16 ⌝ }
-    ensures { λ r. ⌜ r ≡ ownFuture author seq (depsOf d) ⌝ }
+    ensures { λ r. ⌜ r ≡ ownFuture (actor .0) seq (depsOf d) ⌝ }
 {
     let n = d.count;
     let mut i: usize = 0;
     while i < n {
-        if d.authors[i] == author {
+        if d.authors[i] == actor.0 {
             if seq <= d.numbers[i] {
                 return true;
             }
@@ -70,7 +71,7 @@ fn validate(limits: MergeLimits, time: u64, op: StampedOperation, verdict: u8) -
             seq: seq,
         });
     }
-    if own_future(deps, actor.0, seq) {
+    if own_future(deps, actor, seq) {
         return Outcome::Refused(Refusal::OwnFuture {
             actor: actor,
             seq: seq,

@@ -11,10 +11,10 @@ use Rattle.batch.proofs.limits.own_future.Statement.{statement}
 use Rattle.batch.proofs.limits.own_future.Tie as tie
 
 abbrev Inv-loop : tie.InvT-loop
-Inv-loop author seq d n i₀ i = (i ≤ n) × LeftOwn author seq (depsOf d) i
+Inv-loop actor seq d n i₀ i = (i ≤ n) × LeftOwn (actor .0) seq (depsOf d) i
 
 abbrev μ-loop : tie.MeasureT-loop
-μ-loop author seq d n i₀ i = n - i
+μ-loop actor seq d n i₀ i = n - i
 
 -- the arrays have their 16 elements
 authors16 : (c : tie.Start Inv-loop μ-loop) → length (c .args .t1 .authors) ≡ 16
@@ -41,10 +41,10 @@ mul-if2 : tie.Need-mul-if2 Inv-loop μ-loop
 mul-if2 c = search needs
 
 element-copy-out-if2 : tie.Need-element-copy-out-if2 Inv-loop μ-loop
-element-copy-out-if2 c = omega (arith, numbers16 (c .before .before .before .before))
+element-copy-out-if2 c = omega (arith, numbers16 (c .before .before .before .before .before))
 
 returns : tie.Need-returns Inv-loop μ-loop
-returns c = own-found _ _ _ (c .before .before .before .before .before .loop .i) _ _ (next (c .before .before .before .before .before .before) (c .before .before .before .before .before .loop .i) (c .before .before .before .before .loop-test .taken)) (c .before .before .if1 .taken) (c .if2 .taken) (c .before .before .before .before .before .loop .inv .1)
+returns c = own-found _ _ _ (c .before .before .before .before .before .before .loop .i) _ _ (next (c .before .before .before .before .before .before .before) (c .before .before .before .before .before .before .loop .i) (c .before .before .before .before .before .loop-test .taken)) (c .before .before .if1 .taken) (c .if2 .taken) (c .before .before .before .before .before .before .loop .inv .1)
 
 add-i : tie.Need-add-i Inv-loop μ-loop
 add-i c = search needs
@@ -55,8 +55,8 @@ loop-less c = search needs
 loop-again : tie.Need-loop-again Inv-loop μ-loop
 loop-again c = (
   omega arith,
-  ⊎-elim (λ w. own-below _ _ _ (c .before .before .before .loop .i) _ _ (next (c .before .before .before .before) (c .before .before .before .loop .i) (c .before .before .loop-test .taken)) (w .0 .taken) (w .2 .left) (c .before .before .before .loop .inv .1))
-      (λ w. own-other _ _ _ (c .before .before .before .loop .i) _ _ (next (c .before .before .before .before) (c .before .before .before .loop .i) (c .before .before .loop-test .taken)) (w .left) (c .before .before .before .loop .inv .1)) (c .if1 .came),
+  ⊎-elim (λ w. own-below _ _ _ (c .before .before .before .before .loop .i) _ _ (next (c .before .before .before .before .before) (c .before .before .before .before .loop .i) (c .before .before .before .loop-test .taken)) (w .0 .taken) (w .2 .left) (c .before .before .before .before .loop .inv .1))
+      (λ w. own-other _ _ _ (c .before .before .before .before .loop .i) _ _ (next (c .before .before .before .before .before) (c .before .before .before .before .loop .i) (c .before .before .before .loop-test .taken)) (w .left) (c .before .before .before .before .loop .inv .1)) (c .if1 .came),
 )
 
 returns-2 : tie.Need-returns-2 Inv-loop μ-loop
