@@ -9,6 +9,7 @@ use lib.Dec.{leb}
 use lib.ListN.{length}
 use borrow.Author.Tests.{le-leb, lt-leb}
 use Rattle.words.specs.Be.{get64}
+use Rattle.stubs.specs.declared.ActorId.{ActorId}
 use Rattle.error.specs.declared.Refusal.the-variants as refusal
 use Rattle.error.specs.Answer.{andThen, Got, got, bad, after}
 use Rattle.row.specs.Slots.{slotAt, slotOk, slotsAt, decodeHeld}
@@ -173,10 +174,10 @@ module _ {c : List (ℕ × ℕ)} {held batch s₀ ks₀ : List ℕ} {n first row
       whole = λ time. rw (f time duplicates) at (unrolled time b next e);
     }
 
-    pub entering-conflict : (t us : List ℕ) (author seq : ℕ) → Admits c held batch s t us left at (answer.Conflict author seq)
+    pub entering-conflict : (t us : List ℕ) (actor : ActorId) (seq : ℕ) → Admits c held batch s t us left at (answer.Conflict actor seq)
         → (time : ℕ) (bs : List BatchRow) (end : ℕ) → readRows batch rows first ≡ got bs end
-        → AdmitsAll c held batch time s₀ t n bs (Refused (refusal.Conflict (record { 0 = author }) seq))
-    entering-conflict t us author seq (is-conflict b next e f) time bs end q = record {
+        → AdmitsAll c held batch time s₀ t n bs (Refused (refusal.Conflict actor seq))
+    entering-conflict t us actor seq (is-conflict b next e f) time bs end q = record {
       answer = rw (f time duplicates) at (unrolled time b next e) ∙ ap (λ (l : List BatchRow). admitAll c time (admitted held batch time (cells s₀ 0 n) 0) l) (in-all bs end q);
       refs = omega arith;
     }

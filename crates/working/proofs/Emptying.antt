@@ -167,7 +167,7 @@ module _ {held batch s₀ ks₀ ns₀ : List ℕ} {n m₀ : ℕ} {s ks ns : List
   module _ (j k : ℕ) (key : Key) (t : List ℕ) (b : Bool)
       (e : At j ≡ firstWhere (readyRef (ticks ks ns m) held batch) (cells s 0 left))
       (ek : k ≡ get64 s (16 * j)) (l : KeyOf (refRow held batch k) key) (out : TakenOut s t left j)
-      (eb : b ≡ eqb (key .seq) (suc (get (ticks ks ns m) (key .author)))) where
+      (eb : b ≡ eqb (key .seq) (suc (get (ticks ks ns m) (key .actor .0)))) where
     below : j < left
     below = found-below (readyRef (ticks ks ns m) held batch) s left j e
 
@@ -185,7 +185,7 @@ module _ {held batch s₀ ks₀ ns₀ : List ℕ} {n m₀ : ℕ} {s ks ns : List
       unfolding row
       seq-is = ap (λ (r : Row). r .seq) (sym (row-time held batch k time)) ∙ sym (l .seq)
 
-      author-is : row .row .author ≡ key .author
+      author-is : row .row .author ≡ key .actor .0
       unfolding row
       author-is = ap (λ (r : Row). r .author) (sym (row-time held batch k time)) ∙ sym (l .author)
 
@@ -218,7 +218,7 @@ module _ {held batch s₀ ks₀ ns₀ : List ℕ} {n m₀ : ℕ} {s ks ns : List
     }
 
     pub going-log : (u ks′ ns′ : List ℕ) (m′ : ℕ) → b ≡ true → length u ≡ length s → length ks′ ≡ length ks → length ns′ ≡ length ns → Pushed t u logged k
-        → Ticked ks ns m (key .author) (key .seq) ks′ ns′ m′ → Going held batch s₀ ks₀ ns₀ n m₀ u ks′ ns′ m′ (left - 1) (logged + 1) dropped
+        → Ticked ks ns m (key .actor .0) (key .seq) ks′ ns′ m′ → Going held batch s₀ ks₀ ns₀ n m₀ u ks′ ns′ m′ (left - 1) (logged + 1) dropped
     unfolding row
     going-log u ks′ ns′ m′ q len lk ln p o = record {
       same = len ∙ g .same;

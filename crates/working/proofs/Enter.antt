@@ -167,7 +167,7 @@ none-look (met-none q) = q
 
 -- ---- the reference of a row that was read
 module _ (held batch : List ℕ) (at : ℕ) (r : RowRead) (p : ReadsRow batch at r) (next : ℕ) (er : r .reading ≡ ended.Read next) where
-  pub key-read : KeyOf (refRow held batch (64 + at)) (record { stamp = r .op .timestamp; author = r .op .actor .0; seq = r .op .seq })
+  pub key-read : KeyOf (refRow held batch (64 + at)) (record { stamp = r .op .timestamp; actor = r .op .actor; seq = r .op .seq })
   unfolding rowOf
   key-read =
       let e : 64 + at - 64 ≡ at = omega arith in
@@ -209,7 +209,7 @@ module _ (c : List (ℕ × ℕ)) (held batch s t us : List ℕ) (n at : ℕ) (r 
       at-j = cells-at s 0 n j (found-below (idRef (r .op .actor .0) (r .op .seq) held batch) s n j e) ∙ ap (get64 s) (omega arith) ∙ sym ek
 
       told : (time dup : ℕ) → Ans time dup
-          ≡ unless b (refusal.Conflict (record { 0 = r .op .actor .0 }) (r .op .seq)) (done (duplicate (admitted held batch time (cells s 0 n) dup)))
+          ≡ unless b (refusal.Conflict (r .op .actor) (r .op .seq)) (done (duplicate (admitted held batch time (cells s 0 n) dup)))
       unfolding whenKnown rowOf
       told time dup =
           known time dup (present (workRow held batch time k)) (rw at-j at (met-look (met-is own held batch time (cells s 0 n) (At j) e)))
@@ -218,8 +218,8 @@ module _ (c : List (ℕ × ℕ)) (held batch s t us : List ℕ) (n at : ℕ) (r 
       pub admit-same : b ≡ true → t ≡ s → Keyed held batch t us n → Admits c held batch s t us n at (answer.Duplicate next)
       admit-same q z y = is-duplicate (readOf batch r) (read-got batch at r p next er) (λ time dup. told time dup ∙ rw q) z y
 
-      pub admit-other : b ≡ false → Admits c held batch s t us n at (answer.Conflict (r .op .actor .0) (r .op .seq))
-      admit-other q = is-conflict {author = r .op .actor .0} {seq = r .op .seq} (readOf batch r) next (read-got batch at r p next er) (λ time dup. told time dup ∙ rw q)
+      pub admit-other : b ≡ false → Admits c held batch s t us n at (answer.Conflict (r .op .actor) (r .op .seq))
+      admit-other q = is-conflict {actor = r .op .actor} {seq = r .op .seq} (readOf batch r) next (read-got batch at r p next er) (λ time dup. told time dup ∙ rw q)
 
     pub admit-new : Nothing ≡ firstWhere (idRef (r .op .actor .0) (r .op .seq) held batch) (cells s 0 n) → Puts held batch s t us n (64 + at)
         → Admits c held batch s t us n at (answer.Entered next)

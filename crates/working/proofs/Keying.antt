@@ -33,11 +33,11 @@ kept s t b f =
 
 module _ (s : List ℕ) (at : ℕ) (key : Key) (h : at + 5 ≤ length s) where
   abbrev five : List ℕ
-  five = key .stamp .«wall_time» ∷ key .stamp .«logical_counter» ∷ key .stamp .«actor_id» .0 ∷ key .author ∷ key .seq ∷ []
+  five = key .stamp .«wall_time» ∷ key .stamp .«logical_counter» ∷ key .stamp .«actor_id» .0 ∷ key .actor .0 ∷ key .seq ∷ []
 
   abbrev pub written : List ℕ
   written =
-      set (set (set (set (set s at (key .stamp .«wall_time»)) (at + 1) (key .stamp .«logical_counter»)) (at + 2) (key .stamp .«actor_id» .0)) (at + 3) (key .author)) (at + 4) (key .seq)
+      set (set (set (set (set s at (key .stamp .«wall_time»)) (at + 1) (key .stamp .«logical_counter»)) (at + 2) (key .stamp .«actor_id» .0)) (at + 3) (key .actor .0)) (at + 4) (key .seq)
 
   stores : written ≡ putAt s at five
   unfolding putAt

@@ -162,7 +162,7 @@ module _ (s : List ℕ) where
     unfolding batchRowAt
     head-fields = of-heads (readRow s at) t heads
 
-    pub head-key : (key : Key) → key .stamp ≡ head .stamp → key .author ≡ head .author → key .seq ≡ head .seq → KeyOf (batchRowAt s at) key
+    pub head-key : (key : Key) → key .stamp ≡ head .stamp → key .actor .0 ≡ head .author → key .seq ≡ head .seq → KeyOf (batchRowAt s at) key
     head-key key p q r = record { stamp = p ∙ sym (head-fields .0); author = q ∙ sym (head-fields .1); seq = r ∙ sym (head-fields .2) }
 
     -- and its dependencies

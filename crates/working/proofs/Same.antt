@@ -194,17 +194,17 @@ module _ (a b : Key) (x : Bool) (ex : x ≡ stampLess (a .stamp) (b .stamp)) whe
     stamp-above t = sym (front-more (stampKey (a .stamp)) (stampKey (b .stamp)) _ _ refl (sym ey ∙ t))
 
     module _ (fy : y ≡ false) where
-      tails : Less ≡ less (a .author ∷ a .seq ∷ []) (b .author ∷ b .seq ∷ [])
+      tails : Less ≡ less (a .actor .0 ∷ a .seq ∷ []) (b .actor .0 ∷ b .seq ∷ [])
       unfolding numbersOf
       tails =
           let e : a .stamp ≡ b .stamp = stamp-total (a .stamp) (b .stamp) (sym ex ∙ fx) (sym ey ∙ fy) in
-          rw e (front-same (stampKey (b .stamp)) (a .author ∷ a .seq ∷ []) (b .author ∷ b .seq ∷ []))
+          rw e (front-same (stampKey (b .stamp)) (a .actor .0 ∷ a .seq ∷ []) (b .actor .0 ∷ b .seq ∷ []))
 
-      pub author-below : a .author < b .author → true ≡ Less
-      author-below h = sym (tails ∙ less-below (a .author) (b .author) _ _ h)
+      pub author-below : a .actor .0 < b .actor .0 → true ≡ Less
+      author-below h = sym (tails ∙ less-below (a .actor .0) (b .actor .0) _ _ h)
 
-      pub author-above : b .author < a .author → false ≡ Less
-      author-above h = sym (tails ∙ less-above (a .author) (b .author) _ _ h)
+      pub author-above : b .actor .0 < a .actor .0 → false ≡ Less
+      author-above h = sym (tails ∙ less-above (a .actor .0) (b .actor .0) _ _ h)
 
       last : (m n : ℕ) → ltb m n ≡ less (m ∷ []) (n ∷ [])
       unfolding less
@@ -214,18 +214,18 @@ module _ (a b : Key) (x : Bool) (ex : x ≡ stampLess (a .stamp) (b .stamp)) whe
         | above h ↦ le-ltb m n (omega arith) ∙ sym (less-above m n [] [] h)
       ]
 
-      pub as-seqs : a .author ≤ b .author → b .author ≤ a .author → ltb (a .seq) (b .seq) ≡ Less
-      as-seqs h k = sym (tails ∙ less-level (a .author) (b .author) _ _ (omega arith) ∙ sym (last (a .seq) (b .seq)))
+      pub as-seqs : a .actor .0 ≤ b .actor .0 → b .actor .0 ≤ a .actor .0 → ltb (a .seq) (b .seq) ≡ Less
+      as-seqs h k = sym (tails ∙ less-level (a .actor .0) (b .actor .0) _ _ (omega arith) ∙ sym (last (a .seq) (b .seq)))
 
 -- ---- tests of a reference by its key
 module _ (held batch : List ℕ) (k : ℕ) (key : Key) (o : KeyOf (refRow held batch k) key) where
-  pub id-author : (author seq : ℕ) → (author ≡ key .author → ⊥) → false ≡ idRef author seq held batch k
+  pub id-author : (author seq : ℕ) → (author ≡ key .actor .0 → ⊥) → false ≡ idRef author seq held batch k
   unfolding idRef
-  id-author author seq h = rw (← o .author, ne-eqb author (key .author) h)
+  id-author author seq h = rw (← o .author, ne-eqb author (key .actor .0) h)
 
-  pub id-seq : (author seq : ℕ) → author ≡ key .author → eqb seq (key .seq) ≡ idRef author seq held batch k
+  pub id-seq : (author seq : ℕ) → author ≡ key .actor .0 → eqb seq (key .seq) ≡ idRef author seq held batch k
   unfolding idRef
-  id-seq author seq e = rw (← o .author, eq-eqb author (key .author) e, ← o .seq)
+  id-seq author seq e = rw (← o .author, eq-eqb author (key .actor .0) e, ← o .seq)
 
   pub key-numbers : numbersOf key ≡ workKey (refRow held batch k)
   unfolding numbersOf workKey

@@ -3,6 +3,7 @@ use Prim.Native.Nat.{ℕ, _+_}
 use mathlib.Core.Path.{_≡_}
 use mathlib.Core.Bool.{true}
 use mathlib.Core.List.{List}
+use Rattle.stubs.specs.declared.ActorId.{ActorId}
 use Rattle.error.specs.declared.Refusal.the-variants as refusal
 use Rattle.error.specs.Answer.{done, refused, got}
 use Rattle.row.specs.Reading.{BatchRow, readRow}
@@ -37,10 +38,10 @@ pub data Admits (clock : List (ℕ × ℕ)) (held batch s t ks : List ℕ) (n at
       → ((time duplicates : ℕ)
       → admit clock time (admitted held batch time (cells s 0 n) duplicates) b ≡ done (admitted held batch time (cells s 0 n) (duplicates + 1)))
       → t ≡ s → Keyed held batch t ks n → Admits clock held batch s t ks n at (Duplicate next)
-  is-conflict : {author seq : ℕ} (b : BatchRow) (next : ℕ) → readRow batch at ≡ got b next
+  is-conflict : {actor : ActorId} {seq : ℕ} (b : BatchRow) (next : ℕ) → readRow batch at ≡ got b next
       → ((time duplicates : ℕ)
-      → admit clock time (admitted held batch time (cells s 0 n) duplicates) b ≡ refused (refusal.Conflict (record { 0 = author }) seq))
-      → Admits clock held batch s t ks n at (Conflict author seq)
+      → admit clock time (admitted held batch time (cells s 0 n) duplicates) b ≡ refused (refusal.Conflict actor seq))
+      → Admits clock held batch s t ks n at (Conflict actor seq)
   is-entered : {next : ℕ} (b : BatchRow) → readRow batch at ≡ got b next
       → ((time duplicates : ℕ)
       → admit clock time (admitted held batch time (cells s 0 n) duplicates) b ≡ done (admitted held batch time (cells t 0 (n + 1)) duplicates))

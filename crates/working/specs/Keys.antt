@@ -11,7 +11,7 @@ use Rattle.working.specs.declared.looks.Key.{Key}
 unfoldable pub keyAt : List ℕ → ℕ → Key
 keyAt ks at = record {
   stamp = record { «wall_time» = getD ks at 0; «logical_counter» = getD ks (at + 1) 0 % 4294967296; «actor_id» = record { 0 = getD ks (at + 2) 0 } };
-  author = getD ks (at + 3) 0;
+  actor = record { 0 = getD ks (at + 3) 0 };
   seq = getD ks (at + 4) 0;
 }
 

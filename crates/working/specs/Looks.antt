@@ -24,11 +24,11 @@ batchRowAt batch at = arrivedBy 0 (readRow batch at) .row
 -- what rows are known and ordered by
 pub record KeyOf (r : Row) (key : Key) : Type 0 where
   pub stamp : key .stamp ≡ r .stamp
-  pub author : key .author ≡ r .author
+  pub author : key .actor .0 ≡ r .author
   pub seq : key .seq ≡ r .seq
 
 unfoldable pub numbersOf : Key → List ℕ
-numbersOf key = stampKey (key .stamp) ++ (key .author ∷ key .seq ∷ [])
+numbersOf key = stampKey (key .stamp) ++ (key .actor .0 ∷ key .seq ∷ [])
 
 -- tests of a reference
 unfoldable pub readyRef : List (ℕ × ℕ) → List ℕ → List ℕ → ℕ → Bool

@@ -8,6 +8,7 @@ use crate::scratch::put_entry;
 use crate::ticking::clock_get;
 use row::Reading;
 use row::reader::read_row;
+use stubs::ActorId;
 use words::raw::get_word;
 ghost use mathlib.Core.Path.{_≡_};
 ghost use mathlib.Core.Bool.{true};
@@ -26,7 +27,7 @@ ghost use Rattle.working.specs.Entry.{Entrant, Puts, Admits};
 // What became of a row: a duplicate or entered, and where the next one starts, or the conflict.
 pub(crate) enum Admit {
     Duplicate(usize),
-    Conflict { author: u64, seq: u64 },
+    Conflict { actor: ActorId, seq: u64 },
     Entered(usize),
 }
 
@@ -42,34 +43,34 @@ fn key_less(a: Key, b: Key) -> bool
     if t.less(s) {
         return false;
     }
-    if a.author < b.author {
+    if a.actor.0 < b.actor.0 {
         return true;
     }
-    if b.author < a.author {
+    if b.actor.0 < a.actor.0 {
         return false;
     }
     a.seq < b.seq
 }
 
 // Whether the key at `at` has this author and sequence.
-fn same_id(keys: &[u64], at: usize, author: u64, seq: u64) -> bool
+fn same_id(keys: &[u64], at: usize, actor: ActorId, seq: u64) -> bool
     requires { ⌜ at + 5 ≤ length (now keys) ⌝ }
-    ensures { λ r. ⌜ ((held batch : List ℕ) (k : ℕ) → KeyOf (refRow held batch k) (keyAt (now (keys .entry)) at) → r ≡ idRef author seq held batch k) ⌝ }
+    ensures { λ r. ⌜ ((held batch : List ℕ) (k : ℕ) → KeyOf (refRow held batch k) (keyAt (now (keys .entry)) at) → r ≡ idRef (actor .0) seq held batch k) ⌝ }
 {
-    if author != keys[at + 3] {
+    if actor.0 != keys[at + 3] {
         return false;
     }
     seq == keys[at + 4]
 }
 
 // The first of the n working rows with this author and sequence.
-fn seek(keys: &[u64], n: usize, author: u64, seq: u64) -> Found
+fn seek(keys: &[u64], n: usize, actor: ActorId, seq: u64) -> Found
     requires { ⌜ 5 * n ≤ length (now keys) ⌝ }
-    ensures { λ r. ⌜ ((held batch s : List ℕ) → Keyed held batch s (now (keys .entry)) n → r ≡ firstWhere (idRef author seq held batch) (cells s 0 n)) ⌝ }
+    ensures { λ r. ⌜ ((held batch s : List ℕ) → Keyed held batch s (now (keys .entry)) n → r ≡ firstWhere (idRef (actor .0) seq held batch) (cells s 0 n)) ⌝ }
 {
     let mut i: usize = 0;
     while i < n {
-        if same_id(keys, 5 * i, author, seq) {
+        if same_id(keys, 5 * i, actor, seq) {
             return Found::At(i);
         }
         i += 1;
@@ -139,11 +140,11 @@ pub(crate) fn admit_one(
     if seq <= have {
         return Admit::Duplicate(next);
     }
-    let Found::At(j) = seek(keys, n, actor.0, seq) else {
+    let Found::At(j) = seek(keys, n, actor, seq) else {
         let stamp = op.timestamp;
         let key = Key {
             stamp: stamp,
-            author: actor.0,
+            actor: actor,
             seq: seq,
         };
         enter(scratch, keys, n, (64 + at) as u64, key);
@@ -154,7 +155,7 @@ pub(crate) fn admit_one(
         return Admit::Duplicate(next);
     }
     Admit::Conflict {
-        author: actor.0,
+        actor: actor,
         seq: seq,
     }
 }

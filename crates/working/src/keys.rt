@@ -22,7 +22,7 @@ pub(crate) fn key_at(keys: &[u64], at: usize) -> Key
     };
     Key {
         stamp: stamp,
-        author: keys[at + 3],
+        actor: ActorId(keys[at + 3]),
         seq: keys[at + 4],
     }
 }
@@ -33,11 +33,10 @@ fn write_key(keys: &mut [u64], at: usize, key: Key)
     ensures { λ _. ⌜ KeyWritten (now (keys .entry)) (now (keys .exit)) at key ⌝ }
 {
     let stamp = key.stamp;
-    let actor = stamp.actor_id;
     keys[at] = stamp.wall_time;
     keys[at + 1] = stamp.logical_counter as u64;
-    keys[at + 2] = actor.0;
-    keys[at + 3] = key.author;
+    keys[at + 2] = stamp.actor_id.0;
+    keys[at + 3] = key.actor.0;
     keys[at + 4] = key.seq;
 }
 

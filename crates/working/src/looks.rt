@@ -27,7 +27,7 @@ ghost use Rattle.working.specs.Looks.{refRow, batchRowAt, KeyOf, readyRe
 // What rows are known and ordered by.
 pub(crate) struct Key {
     pub stamp: Timestamp,
-    pub author: u64,
+    pub actor: ActorId,
     pub seq: u64,
 }
 
@@ -46,7 +46,7 @@ fn slot_key(held: &[u8], base: usize) -> Key
     let seq = read_seq(held, base);
     Key {
         stamp: stamp,
-        author: actor.0,
+        actor: actor,
         seq: seq,
     }
 }
@@ -59,7 +59,7 @@ fn no_key() -> Key {
     };
     Key {
         stamp: stamp,
-        author: 0,
+        actor: ActorId(0),
         seq: 0,
     }
 }
@@ -79,7 +79,7 @@ fn batch_key(batch: &[u8], at: usize) -> Key
     };
     Key {
         stamp: timestamp,
-        author: actor.0,
+        actor: actor,
         seq: seq,
     }
 }
@@ -117,20 +117,26 @@ fn is_next(seq: u64, have: u64) -> bool
 }
 
 // Whether seq is the author's next number.
-pub(crate) fn next_of(author: u64, seq: u64, authors: &[u64], numbers: &[u64], count: usize) -> bool
+pub(crate) fn next_of(
+    actor: ActorId,
+    seq: u64,
+    authors: &[u64],
+    numbers: &[u64],
+    count: usize,
+) -> bool
     requires { ⌜ Clocked (now authors) (now numbers) count ⌝ }
-    ensures { λ r. ⌜ r ≡ eqb seq (suc (get (ticks (now (authors .entry)) (now (numbers .entry)) count) author)) ⌝ }
+    ensures { λ r. ⌜ r ≡ eqb seq (suc (get (ticks (now (authors .entry)) (now (numbers .entry)) count) (actor .0))) ⌝ }
 {
-    let have = clock_get(authors, numbers, count, author);
+    let have = clock_get(authors, numbers, count, actor.0);
     is_next(seq, have)
 }
 
 // Whether the sequence of an author is in reach.
-fn reached(author: u64, seq: u64, authors: &[u64], numbers: &[u64], count: usize) -> bool
+fn reached(actor: ActorId, seq: u64, authors: &[u64], numbers: &[u64], count: usize) -> bool
     requires { ⌜ Clocked (now authors) (now numbers) count ⌝ }
-    ensures { λ r. ⌜ r ≡ leb seq (suc (get (ticks (now (authors .entry)) (now (numbers .entry)) count) author)) ⌝ }
+    ensures { λ r. ⌜ r ≡ leb seq (suc (get (ticks (now (authors .entry)) (now (numbers .entry)) count) (actor .0))) ⌝ }
 {
-    let have = clock_get(authors, numbers, count, author);
+    let have = clock_get(authors, numbers, count, actor.0);
     in_reach(seq, have)
 }
 
@@ -178,7 +184,7 @@ fn ready_slot(held: &[u8], base: usize, authors: &[u64], numbers: &[u64], count:
 {
     let actor = read_actor(held, base);
     let seq = read_seq(held, base);
-    if !reached(actor.0, seq, authors, numbers, count) {
+    if !reached(actor, seq, authors, numbers, count) {
         return false;
     }
     met_slot(held, base, authors, numbers, count)
@@ -197,7 +203,7 @@ fn ready_batch(batch: &[u8], at: usize, authors: &[u64], numbers: &[u64], count:
     else {
         return false;
     };
-    if !reached(actor.0, seq, authors, numbers, count) {
+    if !reached(actor, seq, authors, numbers, count) {
         return false;
     }
     let causes = read_deps(batch, next);

@@ -14,7 +14,6 @@ use crate::scratch::take_entry;
 use crate::ticking::clock_put;
 use crate::ticking::start_clock;
 use error::Refusal;
-use stubs::ActorId;
 use words::raw::get_word;
 ghost use mathlib.Core.Path.{_≡_};
 ghost use mathlib.Core.Bool.{true};
@@ -91,9 +90,9 @@ fn admit_by(
                 i += 1;
                 continue;
             }
-            Admit::Conflict { author, seq } => {
+            Admit::Conflict { actor, seq } => {
                 return Admitting::Refused(Refusal::Conflict {
-                    actor: ActorId(author),
+                    actor: actor,
                     seq: seq,
                 });
             }
@@ -173,12 +172,12 @@ fn drain_by(
         let key = load_key(held, batch, k);
         take_entry(scratch, left, j);
         left -= 1;
-        let author = key.author;
+        let actor = key.actor;
         let seq = key.seq;
-        if next_of(author, seq, authors, numbers, used) {
+        if next_of(actor, seq, authors, numbers, used) {
             push_logged(scratch, logged, k);
             logged += 1;
-            used = clock_put(authors, numbers, used, author, seq);
+            used = clock_put(authors, numbers, used, actor.0, seq);
             continue;
         }
         dropped += 1;

@@ -10,10 +10,10 @@ use Rattle.working.proofs.entering.seek.Statement.{statement}
 use Rattle.working.proofs.entering.seek.Tie as tie
 
 abbrev Inv-loop : tie.InvT-loop
-Inv-loop keys n author seq i₀ i = (i ≤ n) × ((held batch s : List ℕ) → Keyed held batch s keys n → LeftFirst (idRef author seq held batch) s n i)
+Inv-loop keys n actor seq i₀ i = (i ≤ n) × ((held batch s : List ℕ) → Keyed held batch s keys n → LeftFirst (idRef (actor .0) seq held batch) s n i)
 
 abbrev μ-loop : tie.MeasureT-loop
-μ-loop keys n author seq i₀ i = n - i
+μ-loop keys n actor seq i₀ i = n - i
 
 loop-holds : tie.Need-loop-holds Inv-loop μ-loop
 loop-holds c = (search needs, λ held batch s g. first-start _ _ _)

@@ -39,14 +39,14 @@ mul-t7 c = search needs
 shared-slice-read-t6-2 : tie.Need-shared-slice-read-t6-2
 shared-slice-read-t6-2 c = search needs
 
-add-t14 : tie.Need-add-t14
-add-t14 c = search needs
+add-t13-2 : tie.Need-add-t13-2
+add-t13-2 c = search needs
 
-mul-t13 : tie.Need-mul-t13
-mul-t13 c = search needs
+mul-t14-2 : tie.Need-mul-t14-2
+mul-t14-2 c = search needs
 
-shared-slice-read-t16-2 : tie.Need-shared-slice-read-t16-2
-shared-slice-read-t16-2 c = search needs
+shared-slice-read-t11 : tie.Need-shared-slice-read-t11
+shared-slice-read-t11 c = search needs
 
 returns : tie.Need-returns
 unfolding keyAt
@@ -68,7 +68,7 @@ key-at-spec =
     add-t4
     mul-t7
     shared-slice-read-t6-2
-    add-t14
-    mul-t13
-    shared-slice-read-t16-2
+    add-t13-2
+    mul-t14-2
+    shared-slice-read-t11
     returns)

@@ -52,31 +52,31 @@ sub-left : tie.Need-sub-left Inv-loop μ-loop
 sub-left c = omega (arith, turn (c .before .before .before .before .before .before .before .before .before .before .before .before .before .before .loop .inv) _ (sym (c .before .before .before .before .before .before .before .before .j .given .1) ∙ c .before .before .before .before .before .before .before .before .before .before .first-ready .ensures) .0, turn (c .before .before .before .before .before .before .before .before .before .before .before .before .before .before .loop .inv) _ (sym (c .before .before .before .before .before .before .before .before .j .given .1) ∙ c .before .before .before .before .before .before .before .before .before .before .first-ready .ensures) .1)
 
 next-of-requires : tie.Need-next-of-requires Inv-loop μ-loop
-next-of-requires c κs = c .before .before .before .before .before .before .before .before .before .before .before .before .before .before .before .before .loop .inv .clocked
+next-of-requires c κs = c .before .before .before .before .before .before .before .before .before .before .before .before .before .before .before .before .before .loop .inv .clocked
 
 push-logged-requires : tie.Need-push-logged-requires Inv-loop μ-loop
-push-logged-requires c κs = omega (arith, push-room (c .before .before .before .before .before .before .before .before .before .before .before .before .before .before .before .before .before .before .before .loop .inv) _ (sym (c .before .before .before .before .before .before .before .before .before .before .before .before .before .j .given .1) ∙ c .before .before .before .before .before .before .before .before .before .before .before .before .before .before .before .first-ready .ensures))
+push-logged-requires c κs = omega (arith, push-room (c .before .before .before .before .before .before .before .before .before .before .before .before .before .before .before .before .before .before .before .before .loop .inv) _ (sym (c .before .before .before .before .before .before .before .before .before .before .before .before .before .before .j .given .1) ∙ c .before .before .before .before .before .before .before .before .before .before .before .before .before .before .before .before .first-ready .ensures))
 
 add-logged : tie.Need-add-logged Inv-loop μ-loop
-add-logged c = omega (arith, turn (c .before .before .before .before .before .before .before .before .before .before .before .before .before .before .before .before .before .before .before .before .before .before .loop .inv) _ (sym (c .before .before .before .before .before .before .before .before .before .before .before .before .before .before .before .before .j .given .1) ∙ c .before .before .before .before .before .before .before .before .before .before .before .before .before .before .before .before .before .before .first-ready .ensures) .0, turn (c .before .before .before .before .before .before .before .before .before .before .before .before .before .before .before .before .before .before .before .before .before .before .loop .inv) _ (sym (c .before .before .before .before .before .before .before .before .before .before .before .before .before .before .before .before .j .given .1) ∙ c .before .before .before .before .before .before .before .before .before .before .before .before .before .before .before .before .before .before .first-ready .ensures) .1)
+add-logged c = omega (arith, turn (c .before .before .before .before .before .before .before .before .before .before .before .before .before .before .before .before .before .before .before .before .before .before .before .loop .inv) _ (sym (c .before .before .before .before .before .before .before .before .before .before .before .before .before .before .before .before .before .j .given .1) ∙ c .before .before .before .before .before .before .before .before .before .before .before .before .before .before .before .before .before .before .before .first-ready .ensures) .0, turn (c .before .before .before .before .before .before .before .before .before .before .before .before .before .before .before .before .before .before .before .before .before .before .before .loop .inv) _ (sym (c .before .before .before .before .before .before .before .before .before .before .before .before .before .before .before .before .before .j .given .1) ∙ c .before .before .before .before .before .before .before .before .before .before .before .before .before .before .before .before .before .before .before .first-ready .ensures) .1)
 
 clock-put-requires : tie.Need-clock-put-requires Inv-loop μ-loop
-clock-put-requires c κs = put-needs (c .before .before .before .before .before .before .before .before .before .before .before .before .before .before .before .before .before .before .before .before .before .before .before .before .loop .inv) _ (sym (c .before .before .before .before .before .before .before .before .before .before .before .before .before .before .before .before .before .before .j .given .1) ∙ c .before .before .before .before .before .before .before .before .before .before .before .before .before .before .before .before .before .before .before .before .first-ready .ensures)
+clock-put-requires c κs = put-needs (c .before .before .before .before .before .before .before .before .before .before .before .before .before .before .before .before .before .before .before .before .before .before .before .before .before .loop .inv) _ (sym (c .before .before .before .before .before .before .before .before .before .before .before .before .before .before .before .before .before .before .before .j .given .1) ∙ c .before .before .before .before .before .before .before .before .before .before .before .before .before .before .before .before .before .before .before .before .before .first-ready .ensures)
 
 loop-less : tie.Need-loop-less Inv-loop μ-loop
-loop-less c = omega (arith, turn (c .before .before .before .before .before .before .before .before .before .before .before .before .before .before .before .before .before .before .before .before .before .before .before .before .before .before .before .before .before .loop .inv) _ (sym (c .before .before .before .before .before .before .before .before .before .before .before .before .before .before .before .before .before .before .before .before .before .before .before .j .given .1) ∙ c .before .before .before .before .before .before .before .before .before .before .before .before .before .before .before .before .before .before .before .before .before .before .before .before .before .first-ready .ensures) .0, turn (c .before .before .before .before .before .before .before .before .before .before .before .before .before .before .before .before .before .before .before .before .before .before .before .before .before .before .before .before .before .loop .inv) _ (sym (c .before .before .before .before .before .before .before .before .before .before .before .before .before .before .before .before .before .before .before .before .before .before .before .j .given .1) ∙ c .before .before .before .before .before .before .before .before .before .before .before .before .before .before .before .before .before .before .before .before .before .before .before .before .before .first-ready .ensures) .1)
+loop-less c = omega (arith, turn (c .before .before .before .before .before .before .before .before .before .before .before .before .before .before .before .before .before .before .before .before .before .before .before .before .before .before .before .before .before .before .loop .inv) _ (sym (c .before .before .before .before .before .before .before .before .before .before .before .before .before .before .before .before .before .before .before .before .before .before .before .before .j .given .1) ∙ c .before .before .before .before .before .before .before .before .before .before .before .before .before .before .before .before .before .before .before .before .before .before .before .before .before .before .first-ready .ensures) .0, turn (c .before .before .before .before .before .before .before .before .before .before .before .before .before .before .before .before .before .before .before .before .before .before .before .before .before .before .before .before .before .before .loop .inv) _ (sym (c .before .before .before .before .before .before .before .before .before .before .before .before .before .before .before .before .before .before .before .before .before .before .before .before .j .given .1) ∙ c .before .before .before .before .before .before .before .before .before .before .before .before .before .before .before .before .before .before .before .before .before .before .before .before .before .before .first-ready .ensures) .1)
 
 loop-again : tie.Need-loop-again Inv-loop μ-loop
-loop-again c = going-log (c .before .before .before .before .before .before .before .before .before .before .before .before .before .before .before .before .before .before .before .before .before .before .before .before .before .before .before .before .before .loop .inv) _ _ _ _ _ (sym (c .before .before .before .before .before .before .before .before .before .before .before .before .before .before .before .before .before .before .before .before .before .before .before .j .given .1) ∙ c .before .before .before .before .before .before .before .before .before .before .before .before .before .before .before .before .before .before .before .before .before .before .before .before .before .first-ready .ensures) (c .before .before .before .before .before .before .before .before .before .before .before .before .before .before .before .before .before .before .before .before .get-word .ensures) (c .before .before .before .before .before .before .before .before .before .before .before .before .before .before .before .before .before .before .before .load-key .ensures) (c .before .before .before .before .before .before .before .before .before .before .before .before .before .before .before .before .before .take-entry .ensures) (c .before .before .before .before .before .before .before .before .before .before .before .before .next-of .ensures) _ _ _ _ (c .before .before .before .before .before .before .before .before .before .before .before .if1 .taken) (search needs) (search needs) (search needs) (c .before .before .before .before .before .before .before .before .before .push-logged .ensures) (c .before .before .before .before .clock-put .ensures)
+loop-again c = going-log (c .before .before .before .before .before .before .before .before .before .before .before .before .before .before .before .before .before .before .before .before .before .before .before .before .before .before .before .before .before .before .loop .inv) _ _ _ _ _ (sym (c .before .before .before .before .before .before .before .before .before .before .before .before .before .before .before .before .before .before .before .before .before .before .before .before .j .given .1) ∙ c .before .before .before .before .before .before .before .before .before .before .before .before .before .before .before .before .before .before .before .before .before .before .before .before .before .before .first-ready .ensures) (c .before .before .before .before .before .before .before .before .before .before .before .before .before .before .before .before .before .before .before .before .before .get-word .ensures) (c .before .before .before .before .before .before .before .before .before .before .before .before .before .before .before .before .before .before .before .before .load-key .ensures) (c .before .before .before .before .before .before .before .before .before .before .before .before .before .before .before .before .before .before .take-entry .ensures) (c .before .before .before .before .before .before .before .before .before .before .before .before .next-of .ensures) _ _ _ _ (c .before .before .before .before .before .before .before .before .before .before .before .if1 .taken) (search needs) (search needs) (search needs) (c .before .before .before .before .before .before .before .before .before .push-logged .ensures) (c .before .before .before .before .clock-put .ensures)
 
 add-dropped : tie.Need-add-dropped Inv-loop μ-loop
-add-dropped c = omega (arith, turn (c .before .before .before .before .before .before .before .before .before .before .before .before .before .before .before .before .before .before .loop .inv) _ (sym (c .before .before .before .before .before .before .before .before .before .before .before .before .j .given .1) ∙ c .before .before .before .before .before .before .before .before .before .before .before .before .before .before .first-ready .ensures) .0, turn (c .before .before .before .before .before .before .before .before .before .before .before .before .before .before .before .before .before .before .loop .inv) _ (sym (c .before .before .before .before .before .before .before .before .before .before .before .before .j .given .1) ∙ c .before .before .before .before .before .before .before .before .before .before .before .before .before .before .first-ready .ensures) .1)
+add-dropped c = omega (arith, turn (c .before .before .before .before .before .before .before .before .before .before .before .before .before .before .before .before .before .before .before .loop .inv) _ (sym (c .before .before .before .before .before .before .before .before .before .before .before .before .before .j .given .1) ∙ c .before .before .before .before .before .before .before .before .before .before .before .before .before .before .before .first-ready .ensures) .0, turn (c .before .before .before .before .before .before .before .before .before .before .before .before .before .before .before .before .before .before .before .loop .inv) _ (sym (c .before .before .before .before .before .before .before .before .before .before .before .before .before .j .given .1) ∙ c .before .before .before .before .before .before .before .before .before .before .before .before .before .before .before .first-ready .ensures) .1)
 
 loop-less-2 : tie.Need-loop-less-2 Inv-loop μ-loop
-loop-less-2 c = omega (arith, turn (c .before .before .before .before .before .before .before .before .before .before .before .before .before .before .before .before .before .before .loop .inv) _ (sym (c .before .before .before .before .before .before .before .before .before .before .before .before .j .given .1) ∙ c .before .before .before .before .before .before .before .before .before .before .before .before .before .before .first-ready .ensures) .0, turn (c .before .before .before .before .before .before .before .before .before .before .before .before .before .before .before .before .before .before .loop .inv) _ (sym (c .before .before .before .before .before .before .before .before .before .before .before .before .j .given .1) ∙ c .before .before .before .before .before .before .before .before .before .before .before .before .before .before .first-ready .ensures) .1)
+loop-less-2 c = omega (arith, turn (c .before .before .before .before .before .before .before .before .before .before .before .before .before .before .before .before .before .before .before .loop .inv) _ (sym (c .before .before .before .before .before .before .before .before .before .before .before .before .before .j .given .1) ∙ c .before .before .before .before .before .before .before .before .before .before .before .before .before .before .before .first-ready .ensures) .0, turn (c .before .before .before .before .before .before .before .before .before .before .before .before .before .before .before .before .before .before .before .loop .inv) _ (sym (c .before .before .before .before .before .before .before .before .before .before .before .before .before .j .given .1) ∙ c .before .before .before .before .before .before .before .before .before .before .before .before .before .before .before .first-ready .ensures) .1)
 
 loop-again-2 : tie.Need-loop-again-2 Inv-loop μ-loop
-loop-again-2 c = going-drop (c .before .before .before .before .before .before .before .before .before .before .before .before .before .before .before .before .before .before .loop .inv) _ _ _ _ _ (sym (c .before .before .before .before .before .before .before .before .before .before .before .before .j .given .1) ∙ c .before .before .before .before .before .before .before .before .before .before .before .before .before .before .first-ready .ensures) (c .before .before .before .before .before .before .before .before .before .get-word .ensures) (c .before .before .before .before .before .before .before .before .load-key .ensures) (c .before .before .before .before .before .before .take-entry .ensures) (c .before .next-of .ensures) (c .if1 .left) (search needs)
+loop-again-2 c = going-drop (c .before .before .before .before .before .before .before .before .before .before .before .before .before .before .before .before .before .before .before .loop .inv) _ _ _ _ _ (sym (c .before .before .before .before .before .before .before .before .before .before .before .before .before .j .given .1) ∙ c .before .before .before .before .before .before .before .before .before .before .before .before .before .before .before .first-ready .ensures) (c .before .before .before .before .before .before .before .before .before .before .get-word .ensures) (c .before .before .before .before .before .before .before .before .before .load-key .ensures) (c .before .before .before .before .before .before .before .take-entry .ensures) (c .before .next-of .ensures) (c .if1 .left) (search needs)
 
 pub drain-by-spec : {M : Type 1} → statement M
 drain-by-spec =
