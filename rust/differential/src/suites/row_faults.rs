@@ -17,6 +17,7 @@ const FAULTS: u64 = 300_000;
 const SLOTS: u64 = 200_000;
 
 pub fn run(rng: &mut Rng) -> Outcome {
+    zero_dependency(rng)?;
     for _ in 0..FAULTS {
         let batch = faulty(rng);
         same_row(rng, &batch)?;
@@ -24,7 +25,34 @@ pub fn run(rng: &mut Rng) -> Outcome {
     for _ in 0..SLOTS {
         damaged_slot(rng)?;
     }
-    Ok(FAULTS + SLOTS)
+    Ok(1 + FAULTS + SLOTS)
+}
+
+/// A row that depends on {1: 0}: both write it alike; the original reads it back without, the port with.
+fn zero_dependency(rng: &mut Rng) -> Check {
+    let row = Row {
+        stamp: (0, 0, 1),
+        author: 1,
+        seq: 1,
+        deps: vec![(1, 0)],
+        payload: Vec::new(),
+        signature: Vec::new(),
+    };
+    let mut batch = vec![0, 0, 1, 1, 1, 1, 1, 0, 0, 0];
+    let inputs = || "author 1, sequence 1, dependencies {1: 0}".to_owned();
+    agree(&signed(&row), &batch, inputs)?;
+    let mut written = pattern(batch.len());
+    agree(
+        &sys::signed_op(&row.slot(), &mut written).told,
+        &Told::default(),
+        inputs,
+    )?;
+    agree(&written, &batch, inputs)?;
+    let read = Reader::new(&batch).signed_op().map(|op| row_of(&op).deps);
+    let read = read.map_err(|error| format!("{error:?}"));
+    agree(&read, &Ok(Vec::new()), inputs)?;
+    batch.extend([1, 0, 0]);
+    same_read(rng, &batch, 0, Ok((&Held::logged(row), 1, batch.len())))
 }
 
 /// A batch row of our own writing: overlong varints, sizes beyond capacity, authors that do not rise, wrong closing
