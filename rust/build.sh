@@ -44,7 +44,7 @@ cargo_build() { # PACKAGE
 build_quietly() { # PACKAGE
     if [ -z "${CUWELFRA_LIB_DIR:-}" ] && ! fresh; then
         need rt "install the Rattle kit, or name the folder of a built libcuwelfra.a in CUWELFRA_LIB_DIR"
-        echo "$0: making the static library; every crate is proved first, which takes several minutes" >&2
+        echo "$0: making the static library; every crate is proved first, which takes about ten minutes" >&2
         quietly rt staticlib cuwelfra
         # Where nothing had to be made anew the file may have kept its time.
         touch "$library"
