@@ -134,9 +134,6 @@ zero-all s i h z =
     ext-getD 0 s (replicate (length s) 0) (sym (length-replicate (length s) 0))
     (λ k l. z k (omega arith) ∙ sym (getD-replicate (length s) k 0 0 l))
 
-pub zero-not : (s : List ℕ) (i : ℕ) → i < length s → (getD s i 0 ≡ 0 → ⊥) → Zero s → ⊥
-zero-not s i h n z = n (ap (λ (l : List ℕ). getD l i 0) z ∙ getD-replicate (length s) i 0 0 h)
-
 -- what is zero up to i, and from there up to j, is zero up to j
 pub in-join : (s : List ℕ) (from i j : ℕ) → ZeroIn s from i → ZeroIn s i j → ZeroIn s from j
 in-join s from i j y z k a b = elim (lt-or-le k i) [ inl l ↦ y k a l | inr l ↦ z k l b ]
