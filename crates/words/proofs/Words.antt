@@ -9,10 +9,19 @@ use mathlib.Core.Logic.{_⊎_, inl, inr}
 use mathlib.Core.Bool.{Bool, true, false, not}
 use lib.Dec.{ltb, eqb}
 use borrow.Author.Tests.{ltb-true, ltb-false, eqb-true, eqb-false}
-use Rattle.words.specs.Be.{Bytes, be64, get64, bes, wordsAt}
+use Rattle.words.specs.Be.{Bytes, be64, get32, get64, bes, wordsAt}
 use Rattle.words.specs.Areas.{pad, putAt, Zero, ZeroIn}
 use Rattle.words.specs.Choice.{Tells}
 use Rattle.words.specs.Choice.Tells.{yes, no}
+
+-- a word is its two halves
+pub halves : (s : List ℕ) (at a b : ℕ) → a ≡ get32 s at → b ≡ get32 s (at + 4) → a * 4294967296 + b ≡ get64 s at
+unfolding get32 get64
+halves s at a b e f =
+    let e5 : getD s (at + 4 + 1) 0 ≡ getD s (at + 5) 0 = ap (λ (i : ℕ). getD s i 0) (omega arith) in
+    let e6 : getD s (at + 4 + 2) 0 ≡ getD s (at + 6) 0 = ap (λ (i : ℕ). getD s i 0) (omega arith) in
+    let e7 : getD s (at + 4 + 3) 0 ≡ getD s (at + 7) 0 = ap (λ (i : ℕ). getD s i 0) (omega arith) in
+    omega (arith, e5, e6, e7)
 
 digits : (a b c d e f g h : ℕ) → a < 256 → b < 256 → c < 256 → d < 256 → e < 256 → f < 256 → g < 256 → h < 256
     → be64 (a * 72057594037927936 + b * 281474976710656 + c * 1099511627776 + d * 4294967296 + e * 16777216 + f * 65536 + g * 256 + h)

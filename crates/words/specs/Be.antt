@@ -20,6 +20,10 @@ get64 s at =
     + getD s (at + 3) 0 * 4294967296 + getD s (at + 4) 0 * 16777216 + getD s (at + 5) 0 * 65536
     + getD s (at + 6) 0 * 256 + getD s (at + 7) 0
 
+-- the same of four bytes
+unfoldable pub get32 : List ℕ → ℕ → ℕ
+get32 s at = getD s at 0 * 16777216 + getD s (at + 1) 0 * 65536 + getD s (at + 2) 0 * 256 + getD s (at + 3) 0
+
 -- words one after the other
 unfoldable pub bes : List ℕ → List ℕ
 bes [] = []

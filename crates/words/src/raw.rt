@@ -3,7 +3,7 @@
 ghost use mathlib.Core.Path.{_≡_};
 ghost use Prim.Native.Nat.{_+_, _-_, _*_, _≤_, _<_};
 ghost use lib.ListN.{length};
-ghost use Rattle.words.specs.Be.{be64, get64, bes};
+ghost use Rattle.words.specs.Be.{be64, get32, get64, bes};
 ghost use Rattle.words.specs.Areas.{putAt, movedUp, movedDown};
 
 // A byte as a word.
@@ -13,19 +13,20 @@ fn wide(x: u8) -> u64
     x as u64
 }
 
-// The big-endian word at `at`.
+// The upper or lower half of a big-endian word.
+fn get_half(s: &[u8], at: usize) -> u64
+    requires { ⌜ at + 4 ≤ length (now s) ⌝ }
+    ensures { λ r. ⌜ (r ≡ get32 (now (s .entry)) at) × (r < 4294967296) ⌝ }
+{
+    wide(s[at]) * 16777216 + wide(s[at + 1]) * 65536 + wide(s[at + 2]) * 256 + wide(s[at + 3])
+}
+
+// The big-endian word at `at`. By halves it compiles to one load; a sum of eight does not.
 pub fn get_word(s: &[u8], at: usize) -> u64
     requires { ⌜ at + 8 ≤ length (now s) ⌝ }
     ensures { λ r. ⌜ r ≡ get64 (now (s .entry)) at ⌝ }
 {
-    wide(s[at]) * 72057594037927936
-        + wide(s[at + 1]) * 281474976710656
-        + wide(s[at + 2]) * 1099511627776
-        + wide(s[at + 3]) * 4294967296
-        + wide(s[at + 4]) * 16777216
-        + wide(s[at + 5]) * 65536
-        + wide(s[at + 6]) * 256
-        + wide(s[at + 7])
+    get_half(s, at) * 4294967296 + get_half(s, at + 4)
 }
 
 // Writes v at `at` as a big-endian word.
