@@ -7,8 +7,8 @@ use lib.ListN.{length, take, drop, getD, set, replicate, length-append, length-t
 use lib.Seq.{drop-cons, take-add, drop-drop, length-take-le, sets-eq, getD-take, getD-drop, ext-getD}
 use mathlib.Core.Logic.{_⊎_, inl, inr}
 use mathlib.Core.Bool.{Bool, true, false, not}
-use lib.Dec.{ltb, eqb}
-use borrow.Author.Tests.{ltb-true, ltb-false, eqb-true, eqb-false}
+use lib.Dec.{ltb}
+use borrow.Author.Tests.{ltb-true, ltb-false}
 use Rattle.words.specs.Be.{Bytes, be64, get32, get64, bes, wordsAt}
 use Rattle.words.specs.Areas.{pad, putAt, Zero, ZeroIn}
 use Rattle.words.specs.Choice.{Tells}
@@ -155,70 +155,28 @@ in-one s i h k a b =
     let e : k ≡ i = omega arith in
     ap (λ (m : ℕ). getD s m 0) e ∙ h
 
-word-zero : (s : List ℕ) (i : ℕ) → get64 s i ≡ 0 → (j : ℕ) → j < 8 → getD s (i + j) 0 ≡ 0
-unfolding get64
-word-zero s i h zero l =
-    let e : i + 0 ≡ i = omega arith in
-    rw (e) (omega arith)
-word-zero s i h (suc zero) l = omega arith
-word-zero s i h (suc (suc zero)) l = omega arith
-word-zero s i h (suc (suc (suc zero))) l = omega arith
-word-zero s i h (suc (suc (suc (suc zero)))) l = omega arith
-word-zero s i h (suc (suc (suc (suc (suc zero))))) l = omega arith
-word-zero s i h (suc (suc (suc (suc (suc (suc zero)))))) l = omega arith
-word-zero s i h (suc (suc (suc (suc (suc (suc (suc zero))))))) l = omega arith
-word-zero s i h (suc (suc (suc (suc (suc (suc (suc (suc j)))))))) l = absurd (omega arith)
+-- a test of every byte of a block: none so far, a zero byte more, a byte more that is not zero, and the last
+pub block-none : (s : List ℕ) (at : ℕ) → Tells (ZeroIn s at (at + 0)) true
+block-none s at = yes (λ k a b. absurd (omega arith))
 
--- a word that is zero has eight zero bytes
-pub in-word : (s : List ℕ) (i : ℕ) → get64 s i ≡ 0 → ZeroIn s i (i + 8)
-in-word s i h k a b =
-    let e : k ≡ i + (k - i) = omega arith in
-    ap (λ (n : ℕ). getD s n 0) e ∙ word-zero s i h (k - i) (omega arith)
+pub block-zero : (s : List ℕ) (at i : ℕ) (b c : Bool) → getD s (at + i) 0 ≡ 0 → c ≡ b → Tells (ZeroIn s at (at + i)) b
+    → Tells (ZeroIn s at (at + (i + 1))) c
+block-zero s at i true c h e (yes z) =
+    rw (e) (yes (λ k a l. in-join s at (at + i) (at + i + 1) z (in-one s (at + i) h) k a (omega arith)))
+block-zero s at i false c h e (no n) = rw (e) (no (λ z. n (λ k a l. z k a (omega arith))))
 
--- and the other way round
-pub word-in : (s : List ℕ) (from to i : ℕ) → from ≤ i → i + 8 ≤ to → ZeroIn s from to → get64 s i ≡ 0
-unfolding get64
-word-in s from to i h l z =
-    omega (
-      arith,
-      z i (omega arith) (omega arith),
-      z (i + 1) (omega arith) (omega arith),
-      z (i + 2) (omega arith) (omega arith),
-      z (i + 3) (omega arith) (omega arith),
-      z (i + 4) (omega arith) (omega arith),
-      z (i + 5) (omega arith) (omega arith),
-      z (i + 6) (omega arith) (omega arith),
-      z (i + 7) (omega arith) (omega arith),
-    )
+pub block-other : (s : List ℕ) (at i : ℕ) (c : Bool) → (getD s (at + i) 0 ≡ 0 → ⊥) → c ≡ false → Tells (ZeroIn s at (at + (i + 1))) c
+block-other s at i c h e = rw (e) (no (λ z. h (z (at + i) (omega arith) (omega arith))))
 
--- four words that are zero
-in-four : (s : List ℕ) (i : ℕ) → get64 s i ≡ 0 → get64 s (i + 8) ≡ 0 → get64 s (i + 16) ≡ 0 → get64 s (i + 24) ≡ 0 → ZeroIn s i (i + 32)
-in-four s i a b c d =
-    let z : ZeroIn s (i + 8) (i + 16) = λ k l m. in-word s (i + 8) b k l (omega arith) in
-    let y : ZeroIn s (i + 16) (i + 24) = λ k l m. in-word s (i + 16) c k l (omega arith) in
-    let x : ZeroIn s (i + 24) (i + 32) = λ k l m. in-word s (i + 24) d k l (omega arith) in
-    in-join s i (i + 24) (i + 32) (in-join s i (i + 16) (i + 24) (in-join s i (i + 8) (i + 16) (in-word s i a) z) y) x
-
--- the last of four words tells, where the others are zero
-pub four-tells : (s : List ℕ) (i w : ℕ) → get64 s i ≡ 0 → get64 s (i + 8) ≡ 0 → get64 s (i + 16) ≡ 0 → w ≡ get64 s (i + 24)
-    → Tells (ZeroIn s i (i + 32)) (eqb w 0)
-four-tells s i w a b c e =
-    elim (test (eqb w 0)) [
-      | inl h ↦ let f : get64 s (i + 24) ≡ 0 = sym e ∙ eqb-true w 0 h in rw (h) (yes (in-four s i a b c f))
-      | inr h ↦ rw (h) (no (λ z. eqb-false w 0 h (e ∙ word-in s i (i + 32) (i + 24) (omega arith) (omega arith) z)))
-    ]
+pub block-all : (s : List ℕ) (at i n : ℕ) (b : Bool) → i ≡ n → Tells (ZeroIn s at (at + i)) b → Tells (ZeroIn s at (at + n)) b
+block-all s at i n b e t = rw (← e) t
 
 -- all of an area
-zero-in : (s : List ℕ) (from to : ℕ) → to ≤ length s → Zero s → ZeroIn s from to
+pub zero-in : (s : List ℕ) (from to : ℕ) → to ≤ length s → Zero s → ZeroIn s from to
 zero-in s from to h z k a l = ap (λ (m : List ℕ). getD m k 0) z ∙ getD-replicate (length s) k 0 0 (omega arith)
 
 in-zero : (s : List ℕ) → ZeroIn s 0 (length s) → Zero s
 in-zero s z = zero-all s (length s) (omega arith) (λ k l. z k (omega arith) l)
-
--- what is zero up to i: the rest tells
-pub in-tells : (s : List ℕ) (from i to : ℕ) (b : Bool) → from ≤ i → ZeroIn s from i → Tells (ZeroIn s i to) b → Tells (ZeroIn s from to) b
-in-tells s from i to true h y (yes z) = yes (in-join s from i to y z)
-in-tells s from i to false h y (no n) = no (λ z. n (λ k a l. z k (omega arith) l))
 
 -- a test of the elements from i up to j: passed, and not
 pub in-more : (s : List ℕ) (from i j : ℕ) (b : Bool) → Tells (ZeroIn s i j) b → not b ≡ false → ZeroIn s from i → ZeroIn s from j
@@ -229,9 +187,12 @@ pub zero-not-in : (s : List ℕ) (i j : ℕ) (b : Bool) → j ≤ length s → T
 zero-not-in s i j false h (no n) e z = n (zero-in s i j h z)
 zero-not-in s i j true h (yes y) e z = absurd (let w : _≡_ {A = ℕ} 0 1 = cc in omega arith)
 
-pub zero-tells : (s : List ℕ) (b : Bool) → Tells (ZeroIn s 0 (length s)) b → Tells (Zero s) b
-zero-tells s true (yes z) = yes (in-zero s z)
-zero-tells s false (no n) = no (λ z. n (zero-in s 0 (length s) (omega arith) z))
+-- what is zero up to i: the last n elements tell, if they begin no later
+pub last-tells : (s : List ℕ) (i n : ℕ) (b : Bool) → n ≤ length s → length s - n ≤ i → ZeroIn s 0 i
+    → Tells (ZeroIn s (length s - n) (length s - n + n)) b → Tells (Zero s) b
+last-tells s i n true h l y (yes z) =
+    yes (in-zero s (in-join s 0 i (length s) y (λ k a m. z k (omega arith) (omega arith))))
+last-tells s i n false h l y (no r) = no (λ z. r (zero-in s (length s - n) (length s - n + n) (omega arith) z))
 
 -- eight stores in a row
 pub put8 : (l : List ℕ) (i a b c d e f g h : ℕ) → i + 8 ≤ length l

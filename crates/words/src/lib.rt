@@ -1,9 +1,8 @@
 // Lent areas: big-endian words, and blocks of bytes that are cleared, copied and moved in place.
 pub mod raw;
 
-use crate::raw::get_word;
 ghost use mathlib.Core.Path.{_≡_};
-ghost use Prim.Native.Nat.{_+_, _≤_};
+ghost use Prim.Native.Nat.{_+_, _≤_, _<_};
 ghost use lib.ListN.{length, replicate};
 ghost use Rattle.words.specs.Areas.{Zero, ZeroIn};
 ghost use Rattle.words.specs.Choice.{Tells};
@@ -19,57 +18,55 @@ pub fn zero(s: &mut [u8])
     }
 }
 
-// Whether every byte is zero: four words at a time, then what is left.
+// Whether every byte is zero: 128 at a time, 8 where there are fewer, or each by itself.
 pub fn is_zero(s: &[u8]) -> bool
     ensures { λ r. ⌜ Tells (Zero (now (s .entry))) r ⌝ }
 {
+    if s.len() < 8 {
+        return bytes_are_zero(s);
+    }
+    if s.len() < 128 {
+        return blocks_are_zero(s, 8);
+    }
+    blocks_are_zero(s, 128)
+}
+
+// Whether every byte is zero: n at a time, and the last n as a block that may overlap the one before it.
+fn blocks_are_zero(s: &[u8], n: usize) -> bool
+    requires { ⌜ (0 < n) × (n ≤ length (now s)) ⌝ }
+    ensures { λ r. ⌜ Tells (Zero (now (s .entry))) r ⌝ }
+{
     let mut i: usize = 0;
-    while 32 <= s.len() - i {
-        if !four_are_zero(s, i) {
+    while n < s.len() - i {
+        if !block_is_zero(s, i, n) {
             return false;
         }
-        i += 32;
+        i += n;
     }
-    words_are_zero(s, i)
+    block_is_zero(s, s.len() - n, n)
 }
 
-// Whether the four words at `at` are zero.
-fn four_are_zero(s: &[u8], at: usize) -> bool
-    requires { ⌜ at + 32 ≤ length (now s) ⌝ }
-    ensures { λ r. ⌜ Tells (ZeroIn (now (s .entry)) at (at + 32)) r ⌝ }
+// Whether the n bytes at `at` are zero: all of them are looked at, so that a constant n compiles to wide loads.
+fn block_is_zero(s: &[u8], at: usize, n: usize) -> bool
+    requires { ⌜ at + n ≤ length (now s) ⌝ }
+    ensures { λ r. ⌜ Tells (ZeroIn (now (s .entry)) at (at + n)) r ⌝ }
 {
-    if get_word(s, at) != 0 {
-        return false;
-    }
-    if get_word(s, at + 8) != 0 {
-        return false;
-    }
-    if get_word(s, at + 16) != 0 {
-        return false;
-    }
-    get_word(s, at + 24) == 0
-}
-
-// Whether the bytes from `from` on are zero: whole words, then the bytes behind them.
-fn words_are_zero(s: &[u8], from: usize) -> bool
-    requires { ⌜ from ≤ length (now s) ⌝ }
-    ensures { λ r. ⌜ Tells (ZeroIn (now (s .entry)) from (length (now (s .entry)))) r ⌝ }
-{
-    let mut i = from;
-    while 8 <= s.len() - i {
-        if get_word(s, i) != 0 {
-            return false;
+    let mut zero = true;
+    let mut i: usize = 0;
+    while i < n {
+        if s[at + i] != 0 {
+            zero = false;
         }
-        i += 8;
+        i += 1;
     }
-    bytes_are_zero(s, i)
+    zero
 }
 
-// Whether the bytes from `from` on are zero.
-fn bytes_are_zero(s: &[u8], from: usize) -> bool
-    ensures { λ r. ⌜ Tells (ZeroIn (now (s .entry)) from (length (now (s .entry)))) r ⌝ }
+// Whether every byte is zero: each by itself.
+fn bytes_are_zero(s: &[u8]) -> bool
+    ensures { λ r. ⌜ Tells (Zero (now (s .entry))) r ⌝ }
 {
-    let mut i = from;
+    let mut i: usize = 0;
     while i < s.len() {
         if s[i] != 0 {
             return false;
