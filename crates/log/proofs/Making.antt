@@ -7,8 +7,9 @@ use mathlib.Core.List.{List, []}
 use native.Mathlib.Nat.{zero-add}
 use native.Mathlib.Omega.{arith}
 use lib.Dec.{leb}
-use lib.ListN.{length, drop, replicate, length-replicate}
+use lib.ListN.{length, take, drop, replicate}
 use borrow.Author.Tests.{leb-true, leb-false, le-leb, lt-leb, not-true, not-false}
+use borrow.Rule.Slice.PartMut.{putMid}
 use Rattle.words.specs.Be.{Bytes}
 use Rattle.words.specs.Areas.{pad, putAt}
 use Rattle.words.proofs.Words.{test}
@@ -23,18 +24,19 @@ use Rattle.clock.proofs.Clocks.{entries-of, sound-of}
 use Rattle.clock.proofs.Rising.{none, and-left, and-right}
 use Rattle.row.specs.Slots.{encodeSlots}
 use Rattle.log.specs.Store.{Store, clockOk}
-use Rattle.log.specs.Areas.{Areas, areas, capacity, loggedRows, logBytes, heldBytes, headBytes, writeStore}
+use Rattle.log.specs.Areas.{Areas, areas, capacity, logBytes, heldBytes, headBytes, writeStore}
 use Rattle.log.specs.Calls.{Left, leave, insertAll, fits, readClock, slotsOk, startFrom, fromPartsCall}
 use Rattle.log.specs.Views.{unitOf, Leaves}
-use Rattle.log.specs.Steps.{Stored, run, Parts, rowsIn, AllFit, AllReady, LogsAll, Starts, Begins}
+use Rattle.log.specs.Steps.{Opened, run, Parts, rowsIn, AllFit, PartsReady, LogsParts, Starts, Begins}
 use Rattle.log.proofs.Rules.{kept}
 use Rattle.log.proofs.HeadBytes.{length-head}
-use Rattle.log.proofs.Store.{capacity-most}
+use Rattle.log.proofs.Store.{capacity-room, capacity-most}
 use Rattle.log.proofs.View.{clock-in, ok-in}
 use Rattle.log.proofs.Keeping.{start-rules}
 use Rattle.log.proofs.Slotting.{length-log}
+use Rattle.log.proofs.Opening.{opens-blank}
 use Rattle.log.proofs.Changing.{clashing, leave-refused, Room, fits-full, fits-authors, fits-done, fits-room}
-use Rattle.log.proofs.Restoring.{authors, run-derives, run-authors, all-length, all-clock, all-held-same, length-rows-in}
+use Rattle.log.proofs.Restoring.{authors, run-derives, run-authors, all-length, all-clock, all-held-same, length-rows-in, clear-does}
 
 -- ---- areas that are long enough
 abbrev pub Enough : Areas → List ℕ → ℕ → Bool
@@ -62,19 +64,19 @@ module _ (l h d p k : ℕ) where
       ])
 
 -- ---- room for the rows
+made-log : (es : List (ℕ × ℕ)) (parts : List ℕ) (count : ℕ) → length (insertAll (startFrom es) (rowsIn parts count) .log) ≡ count
+made-log es parts count = all-length (startFrom es) (rowsIn parts count) ∙ zero-add (length (rowsIn parts count)) ∙ length-rows-in parts count
+
 module _ (log parts : List ℕ) (count : ℕ) (c : VectorClock) (m : ℕ) (em : m ≡ capacity log) where
   abbrev made : Store
   made = insertAll (startFrom (entries c)) (rowsIn parts count)
 
-  made-log : length (made .log) ≡ count
-  made-log = all-length (startFrom (entries c)) (rowsIn parts count) ∙ zero-add (length (rowsIn parts count)) ∙ length-rows-in parts count
-
   pub room-log : m < count → refused LogFull ≡ unitOf (fits (capacity log) made)
-  room-log h = sym (ap unitOf (fits-full (capacity log) made (omega (arith, made-log))))
+  room-log h = sym (ap unitOf (fits-full (capacity log) made (omega (arith, made-log (entries c) parts count))))
 
   module _ (h : count ≤ m) (b : Bool) (eb : b ≡ leb (length (run false (entries c) (rowsIn parts count))) 32) where
     low : length (made .log) ≤ capacity log
-    low = omega (arith, made-log)
+    low = omega (arith, made-log (entries c) parts count)
 
     clock-told : leb (length (made .clock)) 32 ≡ b
     clock-told = rw (all-clock (startFrom (entries c)) (rowsIn parts count), ← run-derives (entries c) (rowsIn parts count)) (sym eb)
@@ -225,25 +227,23 @@ module _ (a : Areas) (parts : List ℕ) (count : ℕ) (compacted : List ℕ) whe
     pub made-parts : Parts parts count
     made-parts = record { long = leb-true _ _ (and-right (leb 2120 (length (a .head))) _ t2); ok = m .slots }
 
-    module _ (bs : Bytes compacted) (c : VectorClock) (ec : c ≡ clockAt compacted 0) (log held head : List ℕ) (b : Begins (a .log) (a .held) (a .head) log held head c) where
+    pub made-few : count ≤ capacity (a .log)
+    made-few = omega (arith, made-log (entries (clockAt compacted 0)) parts count, m .room .log)
+
+    module _ (bs : Bytes compacted) (c : VectorClock) (ec : c ≡ clockAt compacted 0) (log held head : List ℕ) (b : Begins (a .log) (a .held) (a .head) log held head count c) where
       abbrev es : List (ℕ × ℕ)
       es = entries (clockAt compacted 0)
 
       clock-ok : clockOk (entries (clockAt compacted 0)) ≡ true
       clock-ok = ok-in compacted 0 (m .clock-sound) bs
 
-      begun : Stored log head (capacity (a .log)) (startFrom es) (drop (704 * capacity (a .log)) (a .log)) (drop 2120 (a .head))
-      unfolding putAt logBytes pad loggedRows encodeSlots
+      begun : Opened log head (capacity (a .log)) 0 (length (rowsIn parts count)) (startFrom es) (drop (704 * capacity (a .log)) (a .log)) (drop 2120 (a .head))
       begun = record {
-        log-is = b .log-is ∙ rw (length-replicate {A = ℕ} (704 * capacity (a .log)) 0, zero-add (704 * capacity (a .log))) (rw less);
+        log-is = rw (length-rows-in parts count) (opens-blank (a .log) log (capacity (a .log)) count (capacity-room (a .log)) made-few (b .log-is));
         head-is = b .head-is .is es (ec ∙ sym (clock-in compacted 0 (m .clock-sound))) clock-ok;
         kept = start-rules es clock-ok;
-        few = omega arith;
         most = capacity-most (a .log);
       }
-        where
-          less : 704 * capacity (a .log) - 0 ≡ 704 * capacity (a .log)
-          less = omega arith
 
       fit : AllFit (capacity (a .log)) (startFrom es) (rowsIn parts count)
       fit = record {
@@ -252,13 +252,13 @@ module _ (a : Areas) (parts : List ℕ) (count : ℕ) (compacted : List ℕ) whe
         marks = m .room .marks;
       }
 
-      pub made-ready : AllReady log head (rowsIn parts count)
+      pub made-ready : PartsReady log head 0 (rowsIn parts count)
       made-ready = record {
         cap = capacity (a .log);
         store = startFrom es;
         behind = drop (704 * capacity (a .log)) (a .log);
         rest = drop 2120 (a .head);
-        stored = begun;
+        opened = begun;
         fits = fit;
       }
 
@@ -266,7 +266,7 @@ module _ (a : Areas) (parts : List ℕ) (count : ℕ) (compacted : List ℕ) whe
       unfolding heldBytes pad encodeSlots
       held-blank = b .held-is ∙ rw (all-held-same (startFrom es) (rowsIn parts count))
 
-      pub made-leaves : (log′ head′ : List ℕ) → LogsAll log head log′ head′ (rowsIn parts count) → Leaves (fromPartsCall a parts count compacted) (done unit) log′ held head′
+      pub made-leaves : (log′ head′ : List ℕ) → LogsParts log head log′ head′ 0 (rowsIn parts count) → Leaves (fromPartsCall a parts count compacted) (done unit) log′ held head′
       unfolding writeStore putAt
       made-leaves log′ head′ d =
           let s = d .is (capacity (a .log)) (startFrom es) _ _ begun fit in
@@ -282,6 +282,11 @@ module _ (a : Areas) (parts : List ℕ) (count : ℕ) (compacted : List ℕ) whe
             head-is = hd ∙ ap (λ (x : Left Unit). x .areas .head) (sym (m .is));
           }
 
-pub begins : (log held head log′ held′ head′ : List ℕ) (c : VectorClock) (m : ℕ) → m ≡ capacity log → log′ ≡ putAt log 0 (replicate (704 * m) 0)
-    → held′ ≡ putAt held 0 (replicate 45056 0) → Starts head head′ c → Begins log held head log′ held′ head′ c
-begins log held head log′ held′ head′ c m e el eh es = record { log-is = el ∙ rw e; held-is = eh; head-is = es }
+pub begins : (log held head w held′ head′ : List ℕ) (count : ℕ) (c : VectorClock) (m : ℕ) → m ≡ capacity log → count ≤ capacity log
+    → w ≡ replicate (length (take (704 * m - 704 * count) (drop (704 * count) log))) 0 → held′ ≡ putAt held 0 (replicate 45056 0) → Starts head head′ c
+    → Begins log held head (putMid (704 * count) (704 * m - 704 * count) log w) held′ head′ count c
+begins log held head w held′ head′ count c m e h el eh es = record {
+  log-is = clear-does log w (704 * count) (704 * m) (704 * (capacity log - count)) (omega arith) (omega (arith, capacity-room log)) (omega arith) el;
+  held-is = eh;
+  head-is = es;
+}
