@@ -36,6 +36,8 @@ fn run(arguments: &[String]) -> Result<(), String> {
             println!("Times are in µs: the median, and the quartiles where there are two more numbers.\n");
             println!("### Batch calls\n");
             merging::workloads()?;
+            println!("### Batch calls on log areas that are just large enough\n");
+            merging::workloads_in_small_areas()?;
             println!("### Where the port's time goes, 64 fresh rows in order\n");
             merging::parts()?;
             println!("### How the batch call grows, fresh rows in order: port / original\n");

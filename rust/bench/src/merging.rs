@@ -5,7 +5,7 @@ use std::time::Instant;
 use cuwelfra::{Row, MAX_LOGGED};
 
 use crate::case::{Before, Case, Counts};
-use crate::rows::{chained, earlier, waiting};
+use crate::rows::{among, chained, earlier, waiting};
 use crate::timing::{micros, rounds, Spread};
 
 /// Rounds of a workload.
@@ -13,6 +13,7 @@ const ROUNDS: usize = 200;
 /// Rounds of a cell of the tables of growth.
 const FEW: usize = 100;
 const LOGS: [usize; 3] = [0, 512, 960];
+const SMALL_LOGS: [usize; 5] = [0, 64, 128, 512, 960];
 
 type Done = Result<(), String>;
 
@@ -22,7 +23,7 @@ type Offer = (
     fn(usize) -> Option<(Before, Vec<Row>, Counts)>,
 );
 
-const OFFERS: [Offer; 6] = [
+const OFFERS: [Offer; 7] = [
     ("64 fresh rows in order", |log| {
         Some((chain(log), next(log, 64), applied(64)))
     }),
@@ -32,6 +33,10 @@ const OFFERS: [Offer; 6] = [
     }),
     ("64 fresh rows with stamps before all logged ones", |log| {
         let rows = (0..64).map(earlier).collect();
+        (log > 0).then_some((chain(log), rows, applied(64)))
+    }),
+    ("64 fresh rows with stamps spread among the logged ones", |log| {
+        let rows = (0..64).map(|n| among(n, n * log as u64 / 64)).collect();
         (log > 0).then_some((chain(log), rows, applied(64)))
     }),
     ("64 duplicates of logged rows", |log| {
@@ -83,25 +88,26 @@ fn applied(applied: usize) -> Counts {
     }
 }
 
-/// The workloads, on log areas of 1,024 slots and on ones that are just large enough.
+/// The workloads, on log areas of 1,024 slots.
 pub fn workloads() -> Done {
+    table(&LOGS, |_| MAX_LOGGED)
+}
+
+/// The same, small logs too, on log areas that are just large enough for 64 rows more.
+pub fn workloads_in_small_areas() -> Done {
+    table(&SMALL_LOGS, |log| log + 64)
+}
+
+/// A line for each workload and each log, on an area of so many slots.
+fn table(logs: &[usize], slots: fn(usize) -> usize) -> Done {
     println!("| batch call | rows logged | slots | port | original | port ÷ original | port through the wrapper | building the batch's bytes |");
     println!("|---|---|---|---|---|---|---|---|");
     for (name, offer) in OFFERS {
-        for log in LOGS {
+        for &log in logs {
             if let Some((before, rows, counts)) = offer(log) {
-                workload(name, &before, MAX_LOGGED, rows, counts)?;
+                workload(name, &before, slots(log), rows, counts)?;
             }
         }
-    }
-    for log in LOGS {
-        workload(
-            OFFERS[0].0,
-            &chain(log),
-            log + 64,
-            next(log, 64),
-            applied(64),
-        )?;
     }
     println!();
     Ok(())

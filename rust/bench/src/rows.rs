@@ -28,6 +28,11 @@ pub fn earlier(n: u64) -> Row {
     row(101 + n % AUTHORS, 1 + n / AUTHORS, START - 1_000 + n)
 }
 
+/// Row `n` of those authors, its stamp behind that of row `place` of the chain, with no dependencies.
+pub fn among(n: u64, place: u64) -> Row {
+    row(101 + n % AUTHORS, 1 + n / AUTHORS, START + place)
+}
+
 /// Row `n` of those authors, which waits for row `cause` of the chain.
 pub fn waiting(n: u64, cause: u64) -> Row {
     let mut row = row(101 + n % AUTHORS, 1 + n / AUTHORS, START + 5_000 + n);
