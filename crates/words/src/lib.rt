@@ -1,10 +1,10 @@
 // Lent areas: big-endian words, and blocks of bytes that are cleared, copied and moved in place.
 pub mod raw;
 
+use crate::raw::blocks_are_zero;
 ghost use mathlib.Core.Path.{_≡_};
-ghost use Prim.Native.Nat.{_+_, _≤_, _<_};
 ghost use lib.ListN.{length, replicate};
-ghost use Rattle.words.specs.Areas.{Zero, ZeroIn};
+ghost use Rattle.words.specs.Areas.{Zero};
 ghost use Rattle.words.specs.Choice.{Tells};
 
 // Clears an area.
@@ -29,37 +29,6 @@ pub fn is_zero(s: &[u8]) -> bool
         return blocks_are_zero(s, 8);
     }
     blocks_are_zero(s, 128)
-}
-
-// Whether every byte is zero: n at a time, and the last n as a block that may overlap the one before it.
-fn blocks_are_zero(s: &[u8], n: usize) -> bool
-    requires { ⌜ (0 < n) × (n ≤ length (now s)) ⌝ }
-    ensures { λ r. ⌜ Tells (Zero (now (s .entry))) r ⌝ }
-{
-    let mut i: usize = 0;
-    while n < s.len() - i {
-        if !block_is_zero(s, i, n) {
-            return false;
-        }
-        i += n;
-    }
-    block_is_zero(s, s.len() - n, n)
-}
-
-// Whether the n bytes at `at` are zero: all of them are looked at, so that a constant n compiles to wide loads.
-fn block_is_zero(s: &[u8], at: usize, n: usize) -> bool
-    requires { ⌜ at + n ≤ length (now s) ⌝ }
-    ensures { λ r. ⌜ Tells (ZeroIn (now (s .entry)) at (at + n)) r ⌝ }
-{
-    let mut zero = true;
-    let mut i: usize = 0;
-    while i < n {
-        if s[at + i] != 0 {
-            zero = false;
-        }
-        i += 1;
-    }
-    zero
 }
 
 // Whether every byte is zero: each by itself.

@@ -4,7 +4,8 @@ ghost use mathlib.Core.Path.{_≡_};
 ghost use Prim.Native.Nat.{_+_, _-_, _*_, _≤_, _<_};
 ghost use lib.ListN.{length};
 ghost use Rattle.words.specs.Be.{be64, get32, get64, bes};
-ghost use Rattle.words.specs.Areas.{putAt, movedUp, movedDown};
+ghost use Rattle.words.specs.Areas.{putAt, Zero, ZeroIn, movedUp, movedDown};
+ghost use Rattle.words.specs.Choice.{Tells};
 
 // A byte as a word.
 fn wide(x: u8) -> u64
@@ -54,6 +55,37 @@ pub fn put_words(s: &mut [u8], at: usize, ws: &[u64])
         put_word(s, at + 8 * i, ws[i]);
         i += 1;
     }
+}
+
+// Whether every byte is zero: n at a time, and the last n as a block that may overlap the one before it.
+pub fn blocks_are_zero(s: &[u8], n: usize) -> bool
+    requires { ⌜ (0 < n) × (n ≤ length (now s)) ⌝ }
+    ensures { λ r. ⌜ Tells (Zero (now (s .entry))) r ⌝ }
+{
+    let mut i: usize = 0;
+    while n < s.len() - i {
+        if !block_is_zero(s, i, n) {
+            return false;
+        }
+        i += n;
+    }
+    block_is_zero(s, s.len() - n, n)
+}
+
+// Whether the n bytes at `at` are zero: all of them are looked at, so that a constant n compiles to wide loads.
+fn block_is_zero(s: &[u8], at: usize, n: usize) -> bool
+    requires { ⌜ at + n ≤ length (now s) ⌝ }
+    ensures { λ r. ⌜ Tells (ZeroIn (now (s .entry)) at (at + n)) r ⌝ }
+{
+    let mut zero = true;
+    let mut i: usize = 0;
+    while i < n {
+        if s[at + i] != 0 {
+            zero = false;
+        }
+        i += 1;
+    }
+    zero
 }
 
 // Copies all of s to d, from `at` on.

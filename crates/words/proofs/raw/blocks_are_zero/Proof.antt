@@ -5,11 +5,11 @@ use lib.ListN.{length}
 use Rattle.words.specs.Areas.{ZeroIn}
 use Rattle.words.specs.Choice.Tells.{no}
 use Rattle.words.proofs.Words.{in-none, in-more, zero-not-in, last-tells}
-use Rattle.words.proofs.blocks_are_zero.Statement.{statement}
-use Rattle.words.proofs.blocks_are_zero.Tie as tie
-use Rattle.words.proofs.blocks_are_zero.Reads as reads
-use Rattle.words.proofs.blocks_are_zero.Lts as lts
-use Rattle.words.proofs.block_is_zero.Reads as block-is-zero-reads
+use Rattle.words.proofs.raw.blocks_are_zero.Statement.{statement}
+use Rattle.words.proofs.raw.blocks_are_zero.Tie as tie
+use Rattle.words.proofs.raw.blocks_are_zero.Reads as reads
+use Rattle.words.proofs.raw.blocks_are_zero.Lts as lts
+use Rattle.words.proofs.raw.block_is_zero.Reads as block-is-zero-reads
 
 abbrev Inv-loop : tie.InvT-loop
 Inv-loop s n i₀ i = (i ≤ length s) × ZeroIn s 0 i
