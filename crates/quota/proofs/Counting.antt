@@ -6,19 +6,21 @@ use mathlib.Core.Logic.{inl, inr}
 use mathlib.Core.List.{List, [], _∷_, _++_}
 use native.Mathlib.Numerals.{add-one}
 use native.Mathlib.Omega.{arith}
-use lib.Dec.{ltb}
+use lib.Dec.{ltb, eqb}
 use lib.ListN.{length, take, drop, getD, set, drop-of-length-le, length-drop}
 use lib.Seq.{length-take-le, getD-take, drop-cons, take-suc-set}
 use borrow.Author.Tests.{eq-eqb, ne-eqb, lt-ltb, le-ltb, le-leb, lt-leb, ltb-true, ltb-false}
 use Rattle.words.specs.Choice.{pick}
 use Rattle.words.specs.Be.{get64}
-use Rattle.words.proofs.Words.{test}
-use Rattle.error.specs.Answer.{done, refused, Got, unit}
+use Rattle.words.proofs.Words.{test, lt-or-le}
+use Rattle.error.specs.Answer.{done, refused, Got, got, bad, unit}
 use Rattle.error.specs.declared.Refusal.the-variants.{HeldOverflow, HeldBytes, AuthorOverflow}
 use Rattle.clock.proofs.Lex.{clash}
+use Rattle.codec.specs.Reading.{partOf}
+use Rattle.codec.proofs.Steps.{after-got}
 use Rattle.row.specs.Rows.{Row, HeldRow}
 use Rattle.row.specs.Slots.{slotAt, slotOk, decodeHeld}
-use Rattle.row.specs.Reading.{BatchRow, readRow}
+use Rattle.row.specs.Reading.{BatchRow, readHead, readDeps, readPart, readClosing, batchRow, readRow}
 use Rattle.row.specs.Views.{OpFits, rowReadBy}
 use Rattle.row.specs.Calls.{ReadsRow}
 use Rattle.row.specs.declared.RowRead.{RowRead}
@@ -26,13 +28,15 @@ use Rattle.row.specs.declared.Reading.{Reading}
 use Rattle.row.specs.declared.Reading.the-variants.{Read, Refused}
 use Rattle.row.proofs.Ops.{word-part, slot-bounds, payload-length}
 use Rattle.row.proofs.Slot.{slot-length}
+use Rattle.row.proofs.Inverse.{PartGot, part-got}
 use Rattle.merging.specs.Merging.{Author, nobody, author, lower, countIf, heldBy, lowestOver, payloadBytes, authorQuota, quotas}
 use Rattle.batch.specs.declared.MergeLimits.{MergeLimits}
 use Rattle.batch.specs.Views.{limitsOf}
 use Rattle.working.specs.Refs.{refOk, refsOk, isRead, arrivedBy, workRow, workRows, cells}
 use Rattle.working.specs.Looks.{refRow, batchRowAt}
-use Rattle.working.proofs.Cells.{refs-of, refs-at, cells-at, cells-more, length-cells}
-use Rattle.working.proofs.Rows.{row-time}
+use Rattle.working.proofs.Cells.{Refs, refs-of, refs-at, cells-at, cells-more, length-cells}
+use Rattle.working.proofs.Cells.Refs.{none, more}
+use Rattle.working.proofs.Rows.{ok-held, ok-batch, row-held, row-batch, row-time}
 use Rattle.quota.specs.Authors.{authorsOf, times, lowestIn}
 
 -- ---- the columns of scratch, entry by entry
@@ -210,6 +214,35 @@ module _ (limit : ℕ) (l : List ℕ) (n : ℕ) where
   unfolding Lowest lowestIn
   lowest-end found i h k g = sym (g ∙ ap (λ (x : List ℕ). join found (lowestIn limit (take n l) x)) (none-left l n 0 i h k) ∙ join-nobody found)
 
+-- none where the limit is as many as all
+times-few : (a : ℕ) (l : List ℕ) → times a l ≤ length l
+unfolding times
+times-few a [] = omega arith
+times-few a (b ∷ l) = elim (test (eqb b a)) [
+  | inl e ↦ rw e (omega (arith, times-few a l))
+  | inr e ↦ rw e (omega (arith, times-few a l))
+]
+
+none-over : (limit : ℕ) (all l : List ℕ) → length all ≤ limit → nobody ≡ lowestIn limit all l
+unfolding lowestIn
+none-over limit all [] h = refl
+none-over limit all (a ∷ l) h = rw (le-ltb limit (times a all) (omega (arith, times-few a all))) (none-over limit all l h)
+
+length-authors : (held batch ks : List ℕ) → length (authorsOf held batch ks) ≡ length ks
+unfolding authorsOf
+length-authors held batch [] = refl
+length-authors held batch (k ∷ ks) = ap suc (length-authors held batch ks)
+
+module _ (held batch s : List ℕ) (n limit : ℕ) where
+  abbrev authors : List ℕ
+  authors = authorsOf held batch (cells s 0 n)
+
+  pub over-none : n ≤ limit → nobody ≡ lowestIn limit authors authors
+  over-none h = none-over limit authors authors (omega (arith, length-authors held batch (cells s 0 n), length-cells s 0 n))
+
+  pub over-loaded : (as′ : List ℕ) (x : Author) → take n as′ ≡ authors → x ≡ lowestIn limit (take n as′) (take n as′) → x ≡ lowestIn limit authors authors
+  over-loaded as′ x e g = rw e at g
+
 -- ---- the same of the rows
 module _ (held batch : List ℕ) (time : ℕ) where
   same-author : (k : ℕ) → workRow held batch time k .row .author ≡ refRow held batch k .author
@@ -276,6 +309,50 @@ module _ (held batch s : List ℕ) (n : ℕ) where
       let q : payloadBytes (workRows held batch time (left s 0 n i)) ≡ 0 = ap (λ (l : List ℕ). payloadBytes (workRows held batch time l)) (left-none s 0 n i h) in
       omega (arith, g time, q)
 
+-- ---- no more than as many of the largest
+got-payload : (s : List ℕ) (at : ℕ) (b : BatchRow) (next : ℕ) → readRow s at ≡ got b next → length (b .row .payload) ≤ 256
+unfolding readRow partOf
+got-payload s at b next e =
+    let (h, a₁, e₁, f₁) = after-got (readHead s at) _ e in
+    let (ds, a₂, e₂, f₂) = after-got (readDeps s a₁) _ f₁ in
+    let (p, a₃, e₃, f₃) = after-got (readPart s 256 a₂) _ f₂ in
+    let (g, a₄, e₄, f₄) = after-got (readPart s 64 a₃) _ f₃ in
+    let (c, a₅, e₅, f₅) = after-got (readClosing s a₄) _ f₄ in
+    let d : PartGot s 256 a₂ p a₃ = part-got s 256 a₂ p a₃ e₃ in
+    let w : batchRow s h ds p g c ≡ b = cc in
+    let l : length (take (p .len) (drop (p .start) s)) ≡ p .len =
+    length-take-le (p .len) (drop (p .start) s) (omega (arith, d .next, d .inside, length-drop (p .start) s)) in
+    rw (← w) (omega (arith, l, d .few))
+
+row-payload : (s : List ℕ) (at : ℕ) (g : Got BatchRow) → readRow s at ≡ g → isRead g ≡ true → length (arrivedBy 0 g .row .payload) ≤ 256
+row-payload s at (got b next) e t = got-payload s at b next e
+row-payload s at (bad r) e t = absurd (clash t refl)
+
+module _ (held batch : List ℕ) where
+  ref-payload : (k : ℕ) → refOk held batch k ≡ true → length (refRow held batch k .payload) ≤ 256
+  unfolding batchRowAt
+  ref-payload k o = elim (lt-or-le k 64) [
+    | inl h ↦
+        let q = held-payload held (704 * k) _ (ok-held held batch k h o) refl in
+        rw (row-held held batch k h) (omega (arith, q .0, q .1))
+    | inr h ↦ rw (row-batch held batch k h) (row-payload batch (k - 64) (readRow batch (k - 64)) refl (ok-batch held batch k h o))
+  ]
+
+  payloads-few : (time : ℕ) {ks : List ℕ} → Refs held batch ks → payloadBytes (workRows held batch time ks) ≤ 256 * length ks
+  unfolding payloadBytes workRows
+  payloads-few time none = omega arith
+  payloads-few time (more {k} {ks} o r) =
+      let f : length (refRow held batch k .payload) ≡ length (workRow held batch time k .row .payload) = ap (λ (x : Row). length (x .payload)) (row-time held batch k time) in
+      omega (arith, f, ref-payload k o, payloads-few time r)
+
+  module _ (s : List ℕ) (n limit : ℕ) where
+    pub bytes-within : refsOk held batch (cells s 0 n) ≡ true → 256 * n ≤ limit → (time : ℕ) → false ≡ ltb limit (payloadBytes (workRows held batch time (cells s 0 n)))
+    bytes-within o h time =
+        sym (le-ltb limit _ (omega (arith, payloads-few time (refs-of held batch (cells s 0 n) o), length-cells s 0 n)))
+
+    pub bytes-are : (b : ℕ) → ((time : ℕ) → b ≡ payloadBytes (workRows held batch time (cells s 0 n))) → (time : ℕ) → ltb limit b ≡ ltb limit (payloadBytes (workRows held batch time (cells s 0 n)))
+    bytes-are b f time = ap (ltb limit) (f time)
+
 -- ---- the quotas
 module _ (l : MergeLimits) (held batch s : List ℕ) (n : ℕ) where
   abbrev rows : ℕ → List HeldRow
@@ -288,25 +365,33 @@ module _ (l : MergeLimits) (held batch s : List ℕ) (n : ℕ) where
   unfolding quotas limitsOf
   quota-rows h time = rw (count-rows time, lt-leb n (l .«max_pending») h)
 
-  module _ (h : n ≤ l .«max_pending») (b : ℕ) (f : (time : ℕ) → b ≡ payloadBytes (rows time)) where
-    pub quota-bytes : l .«max_pending_bytes» < b → (time : ℕ) → refused (HeldBytes (l .«max_pending_bytes»)) ≡ quotas (limitsOf l) (rows time)
+  module _ (h : n ≤ l .«max_pending») (b : Bool) (f : (time : ℕ) → b ≡ ltb (l .«max_pending_bytes») (payloadBytes (rows time))) where
+    pub quota-bytes : b ≡ true → (time : ℕ) → refused (HeldBytes (l .«max_pending_bytes»)) ≡ quotas (limitsOf l) (rows time)
     unfolding quotas limitsOf
-    quota-bytes k time = rw (count-rows time, le-leb n (l .«max_pending») h, ← f time, lt-leb b (l .«max_pending_bytes») k)
+    quota-bytes k time =
+        rw (count-rows time, le-leb n (l .«max_pending») h, lt-leb (payloadBytes (rows time)) (l .«max_pending_bytes») (ltb-true _ _ (sym (f time) ∙ k)))
 
-    module _ (k : b ≤ l .«max_pending_bytes») (as′ : List ℕ) (e : take n as′ ≡ authorsOf held batch (cells s 0 n)) where
-      author-quota : (x : Author) → x ≡ lowestIn (l .«max_pending_per_actor») (take n as′) (take n as′) → (time : ℕ)
-          → authorQuota (l .«max_pending_per_actor») x ≡ quotas (limitsOf l) (rows time)
+    module _ (k : b ≡ false) where
+      abbrev Lowest-is : Author → Type 0
+      Lowest-is x = x ≡ lowestIn (l .«max_pending_per_actor») (authorsOf held batch (cells s 0 n)) (authorsOf held batch (cells s 0 n))
+
+      author-quota : (x : Author) → Lowest-is x → (time : ℕ) → authorQuota (l .«max_pending_per_actor») x ≡ quotas (limitsOf l) (rows time)
       unfolding quotas limitsOf
       author-quota x g time =
           let q : lowestOver (l .«max_pending_per_actor») (rows time) (rows time) ≡ x =
-          lowest-rows held batch time (l .«max_pending_per_actor») (cells s 0 n) (cells s 0 n) ∙ sym (rw e at g) in
-          rw (count-rows time, le-leb n (l .«max_pending») h, ← f time, le-leb b (l .«max_pending_bytes») k, q)
+          lowest-rows held batch time (l .«max_pending_per_actor») (cells s 0 n) (cells s 0 n) ∙ sym g in
+          rw (
+            count-rows time,
+            le-leb n (l .«max_pending») h,
+            le-leb (payloadBytes (rows time)) (l .«max_pending_bytes») (ltb-false _ _ (sym (f time) ∙ k)),
+            q,
+          )
 
-      pub quota-done : nobody ≡ lowestIn (l .«max_pending_per_actor») (take n as′) (take n as′) → (time : ℕ) → done unit ≡ quotas (limitsOf l) (rows time)
+      pub quota-done : Lowest-is nobody → (time : ℕ) → done unit ≡ quotas (limitsOf l) (rows time)
       unfolding authorQuota
       quota-done g time = author-quota nobody g time
 
-      pub quota-over : (a : ℕ) → author a ≡ lowestIn (l .«max_pending_per_actor») (take n as′) (take n as′) → (time : ℕ)
+      pub quota-over : (a : ℕ) → Lowest-is (author a) → (time : ℕ)
           → refused (AuthorOverflow (l .«max_pending_per_actor») (record { 0 = a })) ≡ quotas (limitsOf l) (rows time)
       unfolding authorQuota
       quota-over a g time = author-quota (author a) g time

@@ -41,7 +41,7 @@ pub(crate) fn author_of(held: &[u8], batch: &[u8], k: u64) -> u64
 }
 
 // The authors of the n working rows.
-pub(crate) fn load_authors(held: &[u8], batch: &[u8], scratch: &[u8], n: usize, authors: &mut [u64])
+fn load_authors(held: &[u8], batch: &[u8], scratch: &[u8], n: usize, authors: &mut [u64])
     requires { ⌜ (refsOk (now held) (now batch) (cells (now scratch) 0 n) ≡ true) × (16 * n ≤ length (now scratch)) × (n ≤ length (now authors)) ⌝ }
     ensures { λ _. ⌜ take n (now (authors .exit)) ≡ authorsOf (now (held .entry)) (now (batch .entry)) (cells (now (scratch .entry)) 0 n) ⌝ }
 {
@@ -86,7 +86,7 @@ fn lower(a: u64, found: Over) -> Over
 }
 
 // The lowest of the first n authors that stands more than `limit` times among them.
-pub(crate) fn lowest_over(authors: &[u64], n: usize, limit: u64) -> Over
+fn lowest_over(authors: &[u64], n: usize, limit: u64) -> Over
     requires { ⌜ n ≤ length (now authors) ⌝ }
     ensures { λ r. ⌜ overOf r ≡ lowestIn limit (take n (now (authors .entry))) (take n (now (authors .entry))) ⌝ }
 {
@@ -101,4 +101,17 @@ pub(crate) fn lowest_over(authors: &[u64], n: usize, limit: u64) -> Over
         i += 1;
     }
     found
+}
+
+// The lowest author with more than `limit` of the n working rows. Where the limit is n or more, there is none.
+pub(crate) fn author_over(held: &[u8], batch: &[u8], scratch: &[u8], n: usize, limit: u64) -> Over
+    requires { ⌜ (refsOk (now held) (now batch) (cells (now scratch) 0 n) ≡ true) × (16 * n ≤ length (now scratch)) × (n ≤ 128) ⌝ }
+    ensures { λ r. ⌜ overOf r ≡ lowestIn limit (authorsOf (now (held .entry)) (now (batch .entry)) (cells (now (scratch .entry)) 0 n)) (authorsOf (now (held .entry)) (now (batch .entry)) (cells (now (scratch .entry)) 0 n)) ⌝ }
+{
+    if n as u64 <= limit {
+        return Over::Nobody;
+    }
+    let mut authors = [0u64; 128];
+    load_authors(held, batch, scratch, n, &mut authors);
+    lowest_over(&authors, n, limit)
 }

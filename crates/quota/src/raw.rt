@@ -1,7 +1,6 @@
 // No call of document 01: these require a sound store and references to rows, and serve the merger, which has them.
 use crate::authors::Over;
-use crate::authors::load_authors;
-use crate::authors::lowest_over;
+use crate::authors::author_over;
 use crate::room::marks_fit;
 use batch::MergeLimits;
 use clock::vector::Outcome;
@@ -13,6 +12,7 @@ use words::raw::get_word;
 ghost use mathlib.Core.Path.{_≡_};
 ghost use mathlib.Core.Bool.{true};
 ghost use Prim.Native.Nat.{ℕ, _+_, _*_, _≤_};
+ghost use lib.Dec.{ltb};
 ghost use lib.ListN.{length};
 ghost use Rattle.clock.specs.Vector.{outcomeOf};
 ghost use Rattle.batch.specs.Views.{limitsOf};
@@ -53,6 +53,18 @@ fn payload_bytes(held: &[u8], batch: &[u8], scratch: &[u8], n: usize) -> usize
     bytes
 }
 
+// Whether the payload bytes of the n working rows are above the limit. Where as many of the largest are not, none is read.
+fn bytes_over(held: &[u8], batch: &[u8], scratch: &[u8], n: usize, limit: u64) -> bool
+    requires { ⌜ Working (now held) (now batch) (now scratch) n × (n ≤ 128) ⌝ }
+    ensures { λ r. ⌜ ((time : ℕ) → r ≡ ltb limit (payloadBytes (workRows (now (held .entry)) (now (batch .entry)) time (cells (now (scratch .entry)) 0 n)))) ⌝ }
+{
+    if (256 * n) as u64 <= limit {
+        return false;
+    }
+    let bytes = payload_bytes(held, batch, scratch, n);
+    bytes as u64 > limit
+}
+
 // Step 5: 14, 15 and 16 of the n rows that wait.
 pub fn quotas(held: &[u8], batch: &[u8], scratch: &[u8], n: usize, limits: MergeLimits) -> Outcome
     requires { ⌜ Working (now held) (now batch) (now scratch) n × (n ≤ 128) ⌝ }
@@ -63,15 +75,12 @@ pub fn quotas(held: &[u8], batch: &[u8], scratch: &[u8], n: usize, limits: Merge
             limit: limits.max_pending,
         });
     }
-    let bytes = payload_bytes(held, batch, scratch, n);
-    if bytes as u64 > limits.max_pending_bytes {
+    if bytes_over(held, batch, scratch, n, limits.max_pending_bytes) {
         return Outcome::Refused(Refusal::HeldBytes {
             limit: limits.max_pending_bytes,
         });
     }
-    let mut authors = [0u64; 128];
-    load_authors(held, batch, scratch, n, &mut authors);
-    let over = lowest_over(&authors, n, limits.max_pending_per_actor);
+    let over = author_over(held, batch, scratch, n, limits.max_pending_per_actor);
     match over {
         Over::Nobody => Outcome::Done,
         Over::Author(a) => Outcome::Refused(Refusal::AuthorOverflow {
