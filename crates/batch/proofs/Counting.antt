@@ -48,7 +48,7 @@ validate-snoc l time [] b = sym (alone (validate l time b))
 validate-snoc l time (x ∷ bs) b = sym (nested (validate l time x) (validateAll l time bs) (validate l time b)) ∙ rw (validate-snoc l time bs b)
 
 -- a row by the code's answer
-row-is : {s : List ℕ} {at : ℕ} {r : RowRead} {x : Reading} → ReadsRow s at r → r .reading ≡ x → readRow s at ≡ rowReadBy x s r
+pub row-is : {s : List ℕ} {at : ℕ} {r : RowRead} {x : Reading} → ReadsRow s at r → r .reading ≡ x → readRow s at ≡ rowReadBy x s r
 row-is {s} {at} {r} d e = sym (d .is) ∙ ap (λ x. rowReadBy x s r) e
 
 -- ---- i rows are read, and the next starts at `at`

@@ -1,2 +1,3 @@
 pub mod Validating
 pub mod Counting
+pub mod Starting

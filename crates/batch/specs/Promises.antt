@@ -10,7 +10,7 @@ use Rattle.row.specs.declared.Reading.{Reading}
 use Rattle.row.specs.declared.Reading.the-variants.{Read, Refused}
 use Rattle.row.specs.Views.{rowOf, OpFits}
 use Rattle.row.specs.Reading.{Closing, BatchRow}
-use Rattle.merging.specs.Batch.{Limits, whole, readRows, readBatch, validate, validateAll}
+use Rattle.merging.specs.Batch.{Limits, whole, readRows, readBatch, StartsAt, validate, validateAll}
 use Rattle.batch.specs.declared.BatchRead.{BatchRead}
 
 -- the tests 5 to 12 of a row, wherever its payload and signature stand
@@ -47,3 +47,8 @@ BatchBy (Refused f) s l time r = readBatch s ≡ refused f
 
 pub record ReadsBatch (s : List ℕ) (l : Limits) (time : ℕ) (r : BatchRead) : Type 0 where
   pub is : BatchBy (r .reading) s l time r
+
+-- where the rows of a batch that was read start
+abbrev pub RowsStart : Reading → List ℕ → List ℕ → ℕ → Type 0
+RowsStart (Read first) s starts n = StartsAt s starts first n
+RowsStart (Refused f) s starts n = 0 ≤ n

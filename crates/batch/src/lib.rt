@@ -1,6 +1,7 @@
 // A batch: its bytes read and its rows validated in one pass. From src/merge.rs.
 mod limits; // the tests 5 to 12 of one row
-pub mod reading; // the rows of a batch
+pub mod raw; // the rows of a batch
+pub mod settings; // the closing list
 
 use clock::vector::Outcome;
 use row::Reading;

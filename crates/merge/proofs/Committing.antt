@@ -57,14 +57,14 @@ module _ (a : Areas) (l : Limits) (time : ℕ) (batch scratch output : List ℕ)
   unfolding batchAnswer
   answer-of s rows h e f g = rw (h, e, f, g)
 
-  pub decides : (first n count : ℕ) → Opened a l time batch scratch first n count → roomFor (count + n) scratch output ≡ true → (t : List ℕ) (r : Decision)
+  pub decides : (starts : List ℕ) (n count : ℕ) → Opened a l time batch scratch starts n count → roomFor (count + n) scratch output ≡ true → (t : List ℕ) (r : Decision)
       → Merges a l time batch t r → Decides a l time batch scratch output t r
-  decides first n count o f t (decision.Accepted waiting logged expired duplicates dropped) (Merges.is-accepted m) =
+  decides starts n count o f t (decision.Accepted waiting logged expired duplicates dropped) (Merges.is-accepted m) =
       let p : m .store ≡ o .store = cc (m .reads, o .reads) in
       let q : m .rows ≡ o .taken .rows = cc (m .brings, o .taken .brings) in
       let g : roomFor (length (m .store .held) + length (m .rows)) scratch output ≡ true = rw (p, q, ← o .counts, o .taken .counted) f in
       Decides.is-accepted m (answer-of (m .store) (m .rows) (o .within) (m .reads) (m .brings) g ∙ m .merges) g
-  decides first n count o f t (decision.Refused r) (Merges.is-refused s rows e b m) =
+  decides starts n count o f t (decision.Refused r) (Merges.is-refused s rows e b m) =
       let p : s ≡ o .store = cc (e, o .reads) in
       let q : rows ≡ o .taken .rows = cc (b, o .taken .brings) in
       Decides.is-refused (answer-of s rows (o .within) e b (rw (p, q, ← o .counts, o .taken .counted) f) ∙ m)

@@ -28,7 +28,7 @@ use Rattle.log.proofs.Store.{reads, read-rules}
 use Rattle.log.proofs.Asked.{Passed, read-passed}
 use Rattle.log.proofs.Changing.{read-stored, fits-room}
 use Rattle.log.proofs.Restoring.{all-clock}
-use Rattle.merging.specs.Batch.{Limits, readRows}
+use Rattle.merging.specs.Batch.{Limits, readRows, StartsAt}
 use Rattle.merging.specs.Merging.{unexpired, Admitted, admitAll, Drained, drain, fate, lines, countIf, quotas, Merged, commit, report, settle, finish, merge}
 use Rattle.merging.specs.Steps.{Fits, then-done, not-refused}
 use Rattle.merging.proofs.Draining.{drained}
@@ -115,7 +115,7 @@ pub oldest-is : (m : MergeLimits) (time cutoff : ℕ) → cutoff ≡ time - m .�
 unfolding limitsOf
 oldest-is m time cutoff e = e
 
-module _ (a : Areas) (l : Limits) (time : ℕ) (batch scratch : List ℕ) (first n count : ℕ) (o : Opened a l time batch scratch first n count)
+module _ (a : Areas) (l : Limits) (time : ℕ) (batch scratch starts : List ℕ) (n count : ℕ) (o : Opened a l time batch scratch starts n count)
     (u : List ℕ) (e₀ : u ≡ take (704 * count) (a .held)) (cutoff : ℕ) (c : cutoff ≡ time - l .maxPendingAge) where
   p : Passed a
   p = read-passed a (o .store) (o .reads)
@@ -144,11 +144,11 @@ module _ (a : Areas) (l : Limits) (time : ℕ) (batch scratch : List ℕ) (first
   used-held : slotsAt u 0 count ≡ o .store .held
   used-held = used-slots (a .held) u count e₀ opened-long ∙ held-is
 
-  pub settle-needs : SettleNeeds u batch (a .head) scratch count first n
+  pub settle-needs : SettleNeeds u batch (a .head) scratch count starts n
   settle-needs = record {
     few = omega (arith, o .counts, k .held-few);
     slots = λ j h. rw (used-slot (a .held) u count e₀ opened-long j h) (p .ok .held .slots j (rw count-is at h));
-    read = rw (o .taken .from) refl;
+    begun = record { first = o .first; starts-are = o .starts-are; read = rw (o .taken .from) refl; room = o .starts-room };
     rows-few = o .taken .few;
     room = omega (arith, o .room);
     long = omega (arith, p .long .head);
@@ -161,20 +161,20 @@ module _ (a : Areas) (l : Limits) (time : ℕ) (batch scratch : List ℕ) (first
   begins x f = rw (clock-is, used-held, c) at f
 
   pub not-admitted : (t : List ℕ) (r : Refusal)
-      → ((time : ℕ) (rows : List BatchRow) (end : ℕ) → readRows batch n first ≡ got rows end
+      → ((time first : ℕ) (rows : List BatchRow) (end : ℕ) → StartsAt batch starts first n → readRows batch n first ≡ got rows end
       → admitAll (entries (clockAt (a .head) 48)) time (start cutoff (slotsAt u 0 count)) rows ≡ refused r)
       → Merges a l time batch t (decision.Refused r)
   unfolding merge
   not-admitted t r f =
       Merges.is-refused {r = r} (o .store) (o .taken .rows) (o .reads) (o .taken .brings)
-      (rw (o .taken .valid, begins _ (f time (o .taken .rows) (o .taken .end) (o .taken .from))))
+      (rw (o .taken .valid, begins _ (f time (o .first) (o .taken .rows) (o .taken .end) (o .starts-are) (o .taken .from))))
 
   module _ (t : List ℕ) (waiting logged expired duplicates dropped authors : ℕ)
-      (f : (time : ℕ) (rows : List BatchRow) (end : ℕ) → readRows batch n first ≡ got rows end
+      (f : (time first : ℕ) (rows : List BatchRow) (end : ℕ) → StartsAt batch starts first n → readRows batch n first ≡ got rows end
       → SettledRows u batch (a .head) time t count cutoff rows waiting logged expired duplicates dropped authors)
       (same : length t ≡ length scratch) where
     d : SettledRows u batch (a .head) time t count cutoff (o .taken .rows) waiting logged expired duplicates dropped authors
-    d = f time (o .taken .rows) (o .taken .end) (o .taken .from)
+    d = f time (o .first) (o .taken .rows) (o .taken .end) (o .starts-are) (o .taken .from)
 
     few : waiting + logged ≤ count + n
     few = omega (arith, d .total, o .taken .counted)

@@ -15,13 +15,13 @@ use Rattle.clock.proofs.Rising.{and-left, and-right}
 use Rattle.log.specs.Store.{Store}
 use Rattle.log.specs.Areas.{Areas, capacity, readStore, decodeStore}
 use Rattle.log.proofs.Asked.{Passed}
-use Rattle.merging.specs.Batch.{Limits, limitsOk, whole, readRows, readBatch, validateAll}
+use Rattle.merging.specs.Batch.{Limits, limitsOk, whole, readRows, readBatch, StartsAt, validateAll}
 use Rattle.merging.specs.Merging.{merge}
 use Rattle.merging.specs.Calls.{roomFor, batchAnswer}
 use Rattle.row.specs.declared.Reading.the-variants as reading
 use Rattle.clock.specs.Vector.{outcomeOf}
 use Rattle.batch.specs.declared.BatchRead.{BatchRead}
-use Rattle.batch.specs.Promises.{Brings, ReadsBatch}
+use Rattle.batch.specs.Promises.{Brings, ReadsBatch, RowsStart}
 use Rattle.merge.specs.Promises.{brought, TakesIn, Prepares}
 use Rattle.merge.specs.declared.deciding.Prepared.{Prepared}
 use Rattle.merge.specs.declared.deciding.Prepared.the-variants as prepared
@@ -29,8 +29,8 @@ use Rattle.merge.proofs.Rising.{length-slots}
 
 -- ---- the batch
 
-module _ (l : Limits) (time held : ℕ) (batch scratch output : List ℕ) where
-  pub unread : (r : Refusal) → readBatch batch ≡ refused r → TakesIn l time held batch scratch output (prepared.Refused r)
+module _ (l : Limits) (time held : ℕ) (batch scratch output starts : List ℕ) where
+  pub unread : (r : Refusal) → readBatch batch ≡ refused r → TakesIn l time held batch scratch output starts (prepared.Refused r)
   unfolding brought
   unread r e = TakesIn.is-refused {r = r} (λ cap s h. rw e)
 
@@ -41,20 +41,21 @@ module _ (l : Limits) (time held : ℕ) (batch scratch output : List ℕ) where
     counted : (s : Store) → length (s .held) ≡ held → length (s .held) + length (b .rows) ≡ held + n
     counted s h = omega (arith, b .counted)
 
-    pub no-room : roomFor (held + n) scratch output ≡ false → TakesIn l time held batch scratch output (prepared.Refused ShortArea)
+    pub no-room : roomFor (held + n) scratch output ≡ false → TakesIn l time held batch scratch output starts (prepared.Refused ShortArea)
     unfolding brought
     no-room f = TakesIn.is-refused {r = ShortArea} (λ cap s h. rw (brings, counted s h, f))
 
     module _ (f : roomFor (held + n) scratch output ≡ true) where
-      pub invalid : (r : Refusal) → valid ≡ refused r → TakesIn l time held batch scratch output (prepared.Refused r)
+      pub invalid : (r : Refusal) → valid ≡ refused r → TakesIn l time held batch scratch output starts (prepared.Refused r)
       unfolding brought merge
       invalid r e =
           let v : validateAll l time (b .rows) ≡ refused r = sym (b .valid-is) ∙ e in
           TakesIn.is-refused {r = r} (λ cap s h. rw (brings, counted s h, f, v))
 
-      pub taken-in : valid ≡ done unit → TakesIn l time held batch scratch output (prepared.Ready first n held)
-      taken-in e =
+      pub taken-in : StartsAt batch starts first n → valid ≡ done unit → TakesIn l time held batch scratch output starts (prepared.Ready n held)
+      taken-in at e =
           TakesIn.is-ready
+          first
           (record {
             rows = b .rows;
             end = b .end;
@@ -64,12 +65,17 @@ module _ (l : Limits) (time held : ℕ) (batch scratch output : List ℕ) where
             few = b .few;
             valid = sym (b .valid-is) ∙ e;
           })
+          at
           f
 
 -- how a reading ended
 pub read-by : (l : Limits) (time : ℕ) (batch : List ℕ) (r : BatchRead) (first : ℕ) → ReadsBatch batch l time r → r .reading ≡ reading.Read first
     → Brings batch l time first (r .rows) (outcomeOf (r .valid)) × (readBatch batch ≡ whole batch (readRows batch (r .rows) first))
 read-by l time batch r first b e = rw e at (b .is)
+
+pub starts-by : (batch starts : List ℕ) (r : BatchRead) (first : ℕ) → RowsStart (r .reading) batch starts (r .rows) → r .reading ≡ reading.Read first
+    → StartsAt batch starts first (r .rows)
+starts-by batch starts r first s e = rw e at s
 
 pub unread-by : (l : Limits) (time : ℕ) (batch : List ℕ) (r : BatchRead) (f : Refusal) → ReadsBatch batch l time r → r .reading ≡ reading.Refused f
     → readBatch batch ≡ refused f
@@ -86,17 +92,17 @@ room-output n scratch output h = leb-true _ _ (and-left (leb (18 * n) (length ou
 
 -- ---- settings and store
 
-pub taken-by : {l : Limits} {time held : ℕ} {batch scratch output : List ℕ} {p q : Prepared} → p ≡ q → TakesIn l time held batch scratch output p
-    → TakesIn l time held batch scratch output q
-taken-by {l} {time} {held} {batch} {scratch} {output} e t = rw e at t
+pub taken-by : {l : Limits} {time held : ℕ} {batch scratch output starts : List ℕ} {p q : Prepared} → p ≡ q → TakesIn l time held batch scratch output starts p
+    → TakesIn l time held batch scratch output starts q
+taken-by {l} {time} {held} {batch} {scratch} {output} {starts} e t = rw e at t
 
-module _ (a : Areas) (l : Limits) (time : ℕ) (batch scratch output : List ℕ) where
-  pub no-limits : limitsOk l ≡ false → Prepares a l time batch scratch output (prepared.Refused OverCapacity)
+module _ (a : Areas) (l : Limits) (time : ℕ) (batch scratch output starts : List ℕ) where
+  pub no-limits : limitsOk l ≡ false → Prepares a l time batch scratch output starts (prepared.Refused OverCapacity)
   unfolding batchAnswer
   no-limits h = Prepares.is-refused {r = OverCapacity} (rw h)
 
   module _ (h : limitsOk l ≡ true) where
-    pub no-store : (r : Refusal) → readStore a ≡ refused r → Prepares a l time batch scratch output (prepared.Refused r)
+    pub no-store : (r : Refusal) → readStore a ≡ refused r → Prepares a l time batch scratch output starts (prepared.Refused r)
     unfolding batchAnswer
     no-store r e = Prepares.is-refused {r = r} (rw (h, e))
 
@@ -109,10 +115,21 @@ module _ (a : Areas) (l : Limits) (time : ℕ) (batch scratch output : List ℕ)
       unfolding decodeStore
       held-count = length-slots (a .held) 0 (get64 (a .head) 8)
 
-      pub prepared-by : (r : Prepared) → TakesIn l time (get64 (a .head) 8) batch scratch output r → Prepares a l time batch scratch output r
-      prepared-by (prepared.Ready first n held) (TakesIn.is-ready t f) =
+      pub prepared-by : 64 ≤ length starts → (r : Prepared) → TakesIn l time (get64 (a .head) 8) batch scratch output starts r
+          → Prepares a l time batch scratch output starts r
+      prepared-by long (prepared.Ready n held) (TakesIn.is-ready first t at f) =
           Prepares.is-ready
-          (record { within = h; store = decodeStore a; reads = p .read; counts = sym held-count; taken = t; room = room-scratch _ scratch output f })
+          (record {
+            within = h;
+            store = decodeStore a;
+            reads = p .read;
+            counts = sym held-count;
+            first = first;
+            taken = t;
+            starts-are = at;
+            starts-room = omega (arith, long, t .few);
+            room = room-scratch _ scratch output f;
+          })
           f
-      prepared-by (prepared.Refused r) (TakesIn.is-refused f) =
+      prepared-by long (prepared.Refused r) (TakesIn.is-refused f) =
           Prepares.is-refused (answer-is (decodeStore a) (p .read) ∙ f (capacity (a .log)) (decodeStore a) held-count)

@@ -12,10 +12,10 @@ use Rattle.clock.specs.Vector.{entries, sound}
 use Rattle.clock.specs.Area.{clockAt}
 use Rattle.row.specs.Slots.{slotsAt}
 use Rattle.row.specs.Reading.{BatchRow, readRow}
-use Rattle.merging.specs.Batch.{readRows}
+use Rattle.merging.specs.Batch.{readRows, StartsAt}
 use Rattle.merging.specs.Merging.{unexpired, admitAll, drain}
-use Rattle.working.specs.Refs.{isRead, workRows, cells}
-use Rattle.working.specs.Promises.{Working, Unexpired, admittingOf, AdmitsAll, Drains}
+use Rattle.working.specs.Refs.{workRows, cells}
+use Rattle.working.specs.Promises.{Working, Unexpired, Begun, admittingOf, AdmitsAll, Drains}
 use Rattle.working.specs.declared.Admitting.{Admitting}
 use Rattle.working.specs.declared.Admitting.the-variants as admitting
 use Rattle.working.specs.declared.Draining.{Draining}
@@ -37,54 +37,55 @@ read-length s (suc n) at bs end e =
     let p : bs ≡ row ∷ rest = cc in
     rw p (ap suc (read-length s n at₁ rest at₂ e₃))
 
-module _ (held batch head s : List ℕ) (count first n : ℕ) (needs : SettleNeeds held batch head s count first n) (cutoff : ℕ) (t : List ℕ) (kept : ℕ)
+module _ (held batch head s : List ℕ) (count : ℕ) (starts : List ℕ) (n : ℕ) (needs : SettleNeeds held batch head s count starts n) (cutoff : ℕ) (t : List ℕ) (kept : ℕ)
     (u : (b : List ℕ) (time : ℕ) → Unexpired held b time cutoff (slotsAt held 0 count) t kept) where
   pub kept-few : kept ≤ count
   kept-few = omega (arith, u [] 0 .few, length-slots held 0 count)
 
   pub admit-needs : length t ≡ length s
-      → Working held batch t kept × (isRead (readRows batch n first) ≡ true) × (kept ≤ 64) × (n ≤ 64) × (16 * (kept + n) ≤ length t) × (568 ≤ length head)
+      → Working held batch t kept × Begun batch starts n × (kept ≤ 64) × (n ≤ 64) × (16 * (kept + n) ≤ length t) × (568 ≤ length head)
       × (sound (clockAt head 48) ≡ true)
   admit-needs l =
-      (u batch 0 .working, needs .read, omega (arith, kept-few, needs .few), needs .rows-few, omega (arith, kept-few, needs .room), needs .long, needs .clock)
+      (u batch 0 .working, needs .begun, omega (arith, kept-few, needs .few), needs .rows-few, omega (arith, kept-few, needs .room), needs .long, needs .clock)
 
   kept-length : (time : ℕ) → length (unexpired cutoff (slotsAt held 0 count)) ≡ kept
   kept-length time = sym (ap length (u batch time .rows-are)) ∙ length-work held batch time (cells t 0 kept) ∙ length-cells t 0 kept
 
   module _ (v : List ℕ) (r : Admitting)
-      (ad : (time : ℕ) (bs : List BatchRow) (end : ℕ) → readRows batch n first ≡ got bs end → AdmitsAll (entries (clockAt head 48)) held batch time t v kept bs r) where
-    answered : (time : ℕ) (bs : List BatchRow) (end : ℕ) → readRows batch n first ≡ got bs end
+      (ad : (time first : ℕ) (bs : List BatchRow) (end : ℕ) → StartsAt batch starts first n → readRows batch n first ≡ got bs end → AdmitsAll (entries (clockAt head 48)) held batch time t v kept bs r) where
+    answered : (time first : ℕ) (bs : List BatchRow) (end : ℕ) → StartsAt batch starts first n → readRows batch n first ≡ got bs end
         → admittingOf held batch time v r ≡ admitAll (entries (clockAt head 48)) time (start cutoff (slotsAt held 0 count)) bs
-    answered time bs end e =
-        ad time bs end e .answer
+    answered time first bs end a e =
+        ad time first bs end a e .answer
         ∙ ap (λ hs. admitAll (entries (clockAt head 48)) time (record { working = hs; duplicates = 0 }) bs) (u batch time .rows-are)
 
-    pub settle-refused : (f : Refusal) → r ≡ admitting.Refused f → Settles held batch head v count cutoff first n (settled.Refused f)
-    settle-refused f e = Settles.is-refused (λ time bs end g. sym (answered time bs end g) ∙ ap (admittingOf held batch time v) e)
+    pub settle-refused : (f : Refusal) → r ≡ admitting.Refused f → Settles held batch head v count cutoff starts n (settled.Refused f)
+    settle-refused f e = Settles.is-refused (λ time first bs end a g. sym (answered time first bs end a g) ∙ ap (admittingOf held batch time v) e)
 
     module _ (working duplicates : ℕ) (e : r ≡ admitting.Entered working duplicates) where
-      refs : (time : ℕ) (bs : List BatchRow) (end : ℕ) → readRows batch n first ≡ got bs end → Working held batch v working × (working ≤ kept + length bs)
-      refs time bs end g = rw e at (ad time bs end g .refs)
+      refs : (time first : ℕ) (bs : List BatchRow) (end : ℕ) → StartsAt batch starts first n → readRows batch n first ≡ got bs end → Working held batch v working × (working ≤ kept + length bs)
+      refs time first bs end a g = rw e at (ad time first bs end a g .refs)
 
       most : Working held batch v working × (working ≤ kept + n)
       most =
-          let (bs, end, g) = read-of (readRows batch n first) (needs .read) in
-          let (w, l) = refs 0 bs end g in
-          (w, omega (arith, read-length batch n first bs end g))
+          let b = needs .begun in
+          let (bs, end, g) = read-of (readRows batch n (b .first)) (b .read) in
+          let (w, l) = refs 0 (b .first) bs end (b .starts-are) g in
+          (w, omega (arith, read-length batch n (b .first) bs end g))
 
       pub drain-needs : Working held batch v working × (working ≤ 128) × (568 ≤ length head) × (sound (clockAt head 48) ≡ true)
       drain-needs = (most .0, omega (arith, most .1, kept-few, needs .few, needs .rows-few), needs .long, needs .clock)
 
       pub settle-rows : (x : List ℕ) (d : Draining) → ((time : ℕ) → Drains (entries (clockAt head 48)) held batch time v x working d)
-          → Settles held batch head x count cutoff first n (settled.Rows (d .waiting) (d .logged) (count - kept) duplicates (d .dropped) (d .authors))
+          → Settles held batch head x count cutoff starts n (settled.Rows (d .waiting) (d .logged) (count - kept) duplicates (d .dropped) (d .authors))
       settle-rows x d dr =
-          Settles.are-rows (λ time bs end g.
+          Settles.are-rows (λ time first bs end a g.
           let q = dr time in
           let w : length (workRows held batch time (cells v 0 working)) ≡ working =
           length-work held batch time (cells v 0 working) ∙ length-cells v 0 working in
           record {
             admitted = record { working = workRows held batch time (cells v 0 working); duplicates = duplicates };
-            admits = sym (answered time bs end g) ∙ ap (admittingOf held batch time v) e;
+            admits = sym (answered time first bs end a g) ∙ ap (admittingOf held batch time v) e;
             drained = q .drained;
             is = rw w (q .is);
             refers =
@@ -98,5 +99,5 @@ module _ (held batch head s : List ℕ) (count first n : ℕ) (needs : SettleNee
             duplicates-are = refl;
             dropped-is = q .dropped;
             authors-are = q .authors;
-            total = omega (arith, q .total, refs time bs end g .1, kept-few);
+            total = omega (arith, q .total, refs time first bs end a g .1, kept-few);
           })

@@ -11,7 +11,7 @@ use Rattle.clock.specs.Area.{clockAt}
 use Rattle.row.specs.Slots.{slotsAt}
 use Rattle.row.specs.Reading.{BatchRow}
 use Rattle.log.specs.Areas.{Areas}
-use Rattle.merging.specs.Batch.{Limits, readRows}
+use Rattle.merging.specs.Batch.{Limits, readRows, StartsAt}
 use Rattle.merging.specs.Merging.{admitAll}
 use Rattle.merging.specs.Calls.{roomFor, batchAnswer}
 use Rattle.merge.specs.Promises.{Opened, Prepares, start, SettledRows, Settles, Accepts, Decides}
@@ -23,19 +23,21 @@ use Rattle.merge.specs.declared.deciding.Decision.{Decision}
 use Rattle.merge.specs.declared.deciding.Decision.the-variants as decision
 
 module _ (a : Areas) (l : Limits) (time : ℕ) (batch scratch output : List ℕ) where
-  opened : (first n count : ℕ) → Prepares a l time batch scratch output (prepared.Ready first n count)
-      → Opened a l time batch scratch first n count × (roomFor (count + n) scratch output ≡ true)
-  opened first n count (Prepares.is-ready o f) = (o, f)
+  opened : (starts : List ℕ) (n count : ℕ) → Prepares a l time batch scratch output starts (prepared.Ready n count)
+      → Opened a l time batch scratch starts n count × (roomFor (count + n) scratch output ≡ true)
+  opened starts n count (Prepares.is-ready o f) = (o, f)
 
-  pub was-ready : (r : Prepared) (first n count : ℕ) → r ≡ prepared.Ready first n count → Prepares a l time batch scratch output r
-      → Opened a l time batch scratch first n count × (roomFor (count + n) scratch output ≡ true)
-  was-ready r first n count e p = opened first n count (rw e at p)
+  pub was-ready : (starts : List ℕ) (r : Prepared) (n count : ℕ) → r ≡ prepared.Ready n count → Prepares a l time batch scratch output starts r
+      → Opened a l time batch scratch starts n count × (roomFor (count + n) scratch output ≡ true)
+  was-ready starts r n count e p = opened starts n count (rw e at p)
 
-  denied : (f : Refusal) → Prepares a l time batch scratch output (prepared.Refused f) → batchAnswer a l time batch scratch output ≡ refused f
-  denied f (Prepares.is-refused e) = e
+  denied : (starts : List ℕ) (f : Refusal) → Prepares a l time batch scratch output starts (prepared.Refused f)
+      → batchAnswer a l time batch scratch output ≡ refused f
+  denied starts f (Prepares.is-refused e) = e
 
-  pub was-denied : (r : Prepared) (f : Refusal) → r ≡ prepared.Refused f → Prepares a l time batch scratch output r → batchAnswer a l time batch scratch output ≡ refused f
-  was-denied r f e p = denied f (rw e at p)
+  pub was-denied : (starts : List ℕ) (r : Prepared) (f : Refusal) → r ≡ prepared.Refused f → Prepares a l time batch scratch output starts r
+      → batchAnswer a l time batch scratch output ≡ refused f
+  was-denied starts r f e p = denied starts f (rw e at p)
 
   -- an accepted batch
   pub record Accepted (t : List ℕ) (waiting logged expired duplicates dropped : ℕ) : Type 0 where
@@ -58,22 +60,22 @@ module _ (a : Areas) (l : Limits) (time : ℕ) (batch scratch output : List ℕ)
       → batchAnswer a l time batch scratch output ≡ refused f
   was-refused t r f e d = turned t f (rw e at d)
 
-module _ (held batch head t : List ℕ) (count cutoff first n : ℕ) where
+module _ (held batch head t : List ℕ) (count cutoff : ℕ) (starts : List ℕ) (n : ℕ) where
   rows-of : (waiting logged expired duplicates dropped authors : ℕ)
-      → Settles held batch head t count cutoff first n (settled.Rows waiting logged expired duplicates dropped authors)
-      → (time : ℕ) (rows : List BatchRow) (end : ℕ) → readRows batch n first ≡ got rows end
+      → Settles held batch head t count cutoff starts n (settled.Rows waiting logged expired duplicates dropped authors)
+      → (time first : ℕ) (rows : List BatchRow) (end : ℕ) → StartsAt batch starts first n → readRows batch n first ≡ got rows end
       → SettledRows held batch head time t count cutoff rows waiting logged expired duplicates dropped authors
   rows-of waiting logged expired duplicates dropped authors (Settles.are-rows f) = f
 
   pub were-rows : (r : Settled) (waiting logged expired duplicates dropped authors : ℕ) → r ≡ settled.Rows waiting logged expired duplicates dropped authors
-      → Settles held batch head t count cutoff first n r → (time : ℕ) (rows : List BatchRow) (end : ℕ) → readRows batch n first ≡ got rows end
+      → Settles held batch head t count cutoff starts n r → (time first : ℕ) (rows : List BatchRow) (end : ℕ) → StartsAt batch starts first n → readRows batch n first ≡ got rows end
       → SettledRows held batch head time t count cutoff rows waiting logged expired duplicates dropped authors
   were-rows r waiting logged expired duplicates dropped authors e s = rows-of waiting logged expired duplicates dropped authors (rw e at s)
 
-  conflict-of : (f : Refusal) → Settles held batch head t count cutoff first n (settled.Refused f) → (time : ℕ) (rows : List BatchRow) (end : ℕ)
-      → readRows batch n first ≡ got rows end → admitAll (entries (clockAt head 48)) time (start cutoff (slotsAt held 0 count)) rows ≡ refused f
+  conflict-of : (f : Refusal) → Settles held batch head t count cutoff starts n (settled.Refused f) → (time first : ℕ) (rows : List BatchRow) (end : ℕ)
+      → StartsAt batch starts first n → readRows batch n first ≡ got rows end → admitAll (entries (clockAt head 48)) time (start cutoff (slotsAt held 0 count)) rows ≡ refused f
   conflict-of f (Settles.is-refused g) = g
 
-  pub was-conflict : (r : Settled) (f : Refusal) → r ≡ settled.Refused f → Settles held batch head t count cutoff first n r → (time : ℕ) (rows : List BatchRow) (end : ℕ)
-      → readRows batch n first ≡ got rows end → admitAll (entries (clockAt head 48)) time (start cutoff (slotsAt held 0 count)) rows ≡ refused f
+  pub was-conflict : (r : Settled) (f : Refusal) → r ≡ settled.Refused f → Settles held batch head t count cutoff starts n r → (time first : ℕ) (rows : List BatchRow) (end : ℕ)
+      → StartsAt batch starts first n → readRows batch n first ≡ got rows end → admitAll (entries (clockAt head 48)) time (start cutoff (slotsAt held 0 count)) rows ≡ refused f
   was-conflict r f e s = conflict-of f (rw e at s)

@@ -21,12 +21,12 @@ use Rattle.log.specs.Calls.{insertAll, fits}
 use Rattle.log.specs.Views.{unitOf}
 use Rattle.log.specs.Passes.{HeadOk}
 use Rattle.log.specs.Steps.{Stored, Sound, AllReady}
-use Rattle.merging.specs.Batch.{Limits, limitsOk, readRows, readBatch, validateAll}
+use Rattle.merging.specs.Batch.{Limits, limitsOk, readRows, readBatch, StartsAt, validateAll}
 use Rattle.merging.specs.Merging.{unexpired, Admitted, admitAll, Drained, drain, fate, lines, countIf, quotas, Report, Merged, commit, merge}
 use Rattle.merging.specs.Calls.{roomFor, batchAnswer, Batched}
 use Rattle.merging.specs.Steps.{Fits}
-use Rattle.working.specs.Refs.{isRead, refsOk, workRows, cells}
-use Rattle.working.specs.Promises.{Working}
+use Rattle.working.specs.Refs.{refsOk, workRows, cells}
+use Rattle.working.specs.Promises.{Working, Begun}
 use Rattle.quota.specs.Promises.{rowsLogged}
 use Rattle.commit.specs.declared.Fates.{Fates}
 use Rattle.commit.specs.Slots.{SlotsRise}
@@ -60,31 +60,35 @@ brought cap l time s batch scratch output =
     unless (roomFor (length (s .held) + length rows) scratch output) ShortArea
     (merge cap l time s rows))
 
-pub data TakesIn (l : Limits) (time held : ℕ) (batch scratch output : List ℕ) : Prepared → Type 0 where
-  is-ready : {first n : ℕ} → Taken l time batch first n → roomFor (held + n) scratch output ≡ true → TakesIn l time held batch scratch output (prepared.Ready first n held)
+pub data TakesIn (l : Limits) (time held : ℕ) (batch scratch output starts : List ℕ) : Prepared → Type 0 where
+  is-ready : {n : ℕ} (first : ℕ) → Taken l time batch first n → StartsAt batch starts first n → roomFor (held + n) scratch output ≡ true
+      → TakesIn l time held batch scratch output starts (prepared.Ready n held)
   is-refused : {r : Refusal} → ((cap : ℕ) (s : Store) → length (s .held) ≡ held → brought cap l time s batch scratch output ≡ refused r)
-      → TakesIn l time held batch scratch output (prepared.Refused r)
+      → TakesIn l time held batch scratch output starts (prepared.Refused r)
 
 -- settings within capacity, a sound store with so many held rows, and a batch that was read, with room in scratch
-pub record Opened (a : Areas) (l : Limits) (time : ℕ) (batch scratch : List ℕ) (first n count : ℕ) : Type 0 where
+pub record Opened (a : Areas) (l : Limits) (time : ℕ) (batch scratch starts : List ℕ) (n count : ℕ) : Type 0 where
   pub within : limitsOk l ≡ true
   pub store : Store
   pub reads : readStore a ≡ done store
   pub counts : count ≡ length (store .held)
+  pub first : ℕ
   pub taken : Taken l time batch first n
+  pub starts-are : StartsAt batch starts first n
+  pub starts-room : n ≤ length starts
   pub room : 704 * (count + n) ≤ length scratch
 
-pub data Prepares (a : Areas) (l : Limits) (time : ℕ) (batch scratch output : List ℕ) : Prepared → Type 0 where
-  is-ready : {first n count : ℕ} → Opened a l time batch scratch first n count → roomFor (count + n) scratch output ≡ true
-      → Prepares a l time batch scratch output (prepared.Ready first n count)
-  is-refused : {r : Refusal} → batchAnswer a l time batch scratch output ≡ refused r → Prepares a l time batch scratch output (prepared.Refused r)
+pub data Prepares (a : Areas) (l : Limits) (time : ℕ) (batch scratch output starts : List ℕ) : Prepared → Type 0 where
+  is-ready : {n count : ℕ} → Opened a l time batch scratch starts n count → roomFor (count + n) scratch output ≡ true
+      → Prepares a l time batch scratch output starts (prepared.Ready n count)
+  is-refused : {r : Refusal} → batchAnswer a l time batch scratch output ≡ refused r → Prepares a l time batch scratch output starts (prepared.Refused r)
 
 -- ---- steps 1 to 3
 
-pub record SettleNeeds (held batch head scratch : List ℕ) (count first n : ℕ) : Type 0 where
+pub record SettleNeeds (held batch head scratch : List ℕ) (count : ℕ) (starts : List ℕ) (n : ℕ) : Type 0 where
   pub few : count ≤ 64
   pub slots : (k : ℕ) → k < count → slotOk (slotAt held (704 * k)) ≡ true
-  pub read : isRead (readRows batch n first) ≡ true
+  pub begun : Begun batch starts n
   pub rows-few : n ≤ 64
   pub room : 16 * (count + n) ≤ length scratch
   pub long : 568 ≤ length head
@@ -112,15 +116,15 @@ pub record SettledRows (held batch head : List ℕ) (time : ℕ) (t : List ℕ) 
   pub authors-are : authors ≡ length (drained .clock)
   pub total : waiting + logged ≤ count + length rows
 
-pub data Settles (held batch head t : List ℕ) (count cutoff first n : ℕ) : Settled → Type 0 where
+pub data Settles (held batch head t : List ℕ) (count cutoff : ℕ) (starts : List ℕ) (n : ℕ) : Settled → Type 0 where
   are-rows : {waiting logged expired duplicates dropped authors : ℕ}
-      → ((time : ℕ) (rows : List BatchRow) (end : ℕ) → readRows batch n first ≡ got rows end
+      → ((time first : ℕ) (rows : List BatchRow) (end : ℕ) → StartsAt batch starts first n → readRows batch n first ≡ got rows end
       → SettledRows held batch head time t count cutoff rows waiting logged expired duplicates dropped authors)
-      → Settles held batch head t count cutoff first n (settled.Rows waiting logged expired duplicates dropped authors)
+      → Settles held batch head t count cutoff starts n (settled.Rows waiting logged expired duplicates dropped authors)
   is-refused : {r : Refusal}
-      → ((time : ℕ) (rows : List BatchRow) (end : ℕ) → readRows batch n first ≡ got rows end
+      → ((time first : ℕ) (rows : List BatchRow) (end : ℕ) → StartsAt batch starts first n → readRows batch n first ≡ got rows end
       → admitAll (entries (clockAt head 48)) time (start cutoff (slotsAt held 0 count)) rows ≡ refused r)
-      → Settles held batch head t count cutoff first n (settled.Refused r)
+      → Settles held batch head t count cutoff starts n (settled.Refused r)
 
 -- ---- 14 to 18
 

@@ -1,7 +1,7 @@
 // What a batch call answers, decided before anything but scratch is written.
 use batch::MergeLimits;
-use batch::reading::are_within;
-use batch::reading::read_batch;
+use batch::raw::read_batch;
+use batch::settings::are_within;
 use clock::vector::Outcome;
 use error::Refusal;
 use log::check::check_store;
@@ -15,19 +15,16 @@ use working::raw::drain;
 use working::raw::unexpired;
 ghost use mathlib.Core.Path.{_≡_};
 ghost use Prim.Native.Nat.{_-_, _≤_};
+ghost use lib.ListN.{length};
 ghost use Rattle.clock.specs.Vector.{outcomeOf};
 ghost use Rattle.log.specs.Areas.{areas};
 ghost use Rattle.merging.specs.Calls.{roomFor};
 ghost use Rattle.batch.specs.Views.{limitsOf};
 ghost use Rattle.merge.specs.Promises.{Opened, TakesIn, Prepares, SettleNeeds, Settles, JudgeNeeds, Judged, Merges, Decides};
 
-// A batch that was read and validated: where its rows start and how many they are, and how many rows are held.
+// A batch that was read and validated: how many rows it has, and how many rows are held.
 pub(crate) enum Prepared {
-    Ready {
-        first: usize,
-        rows: usize,
-        held: usize,
-    },
+    Ready { rows: usize, held: usize },
     Refused(Refusal),
 }
 
@@ -67,7 +64,7 @@ fn have_room(rows: usize, scratch: &[u8], output: &[u8]) -> bool
     704 * rows <= scratch.len()
 }
 
-// 3 and 4, 2 for output and scratch, 5 to 12, on a store with so many held rows.
+// 3 and 4, 2 for output and scratch, 5 to 12, on a store with so many held rows; where each row of the batch starts.
 fn take_in(
     limits: MergeLimits,
     time: u64,
@@ -75,24 +72,24 @@ fn take_in(
     batch: &[u8],
     scratch: &[u8],
     output: &[u8],
+    starts: &mut [u64],
 ) -> Prepared
-    requires { ⌜ held ≤ 64 ⌝ }
-    ensures { λ r. ⌜ TakesIn (limitsOf limits) time held (now (batch .entry)) (now (scratch .entry)) (now (output .entry)) r ⌝ }
+    requires { ⌜ (held ≤ 64) × (64 ≤ length (now starts)) ⌝ }
+    ensures { λ r. ⌜ TakesIn (limitsOf limits) time held (now (batch .entry)) (now (scratch .entry)) (now (output .entry)) (now (starts .exit)) r ⌝ }
 {
-    let read = read_batch(batch, limits, time);
+    let read = read_batch(batch, limits, time, starts);
     let reading = read.reading;
     let rows = read.rows;
     let valid = read.valid;
     match reading {
         Reading::Refused(r) => Prepared::Refused(r),
-        Reading::Read(first) => {
+        Reading::Read(_) => {
             if !have_room(held + rows, scratch, output) {
                 return Prepared::Refused(Refusal::ShortArea);
             }
             match valid {
                 Outcome::Refused(fault) => Prepared::Refused(fault),
                 Outcome::Done => Prepared::Ready {
-                    first: first,
                     rows: rows,
                     held: held,
                 },
@@ -111,8 +108,10 @@ fn prepare(
     batch: &[u8],
     scratch: &[u8],
     output: &[u8],
+    starts: &mut [u64],
 ) -> Prepared
-    ensures { λ r. ⌜ Prepares (areas (now (log .entry)) (now (held .entry)) (now (head .entry))) (limitsOf limits) time (now (batch .entry)) (now (scratch .entry)) (now (output .entry)) r ⌝ }
+    requires { ⌜ 64 ≤ length (now starts) ⌝ }
+    ensures { λ r. ⌜ Prepares (areas (now (log .entry)) (now (held .entry)) (now (head .entry))) (limitsOf limits) time (now (batch .entry)) (now (scratch .entry)) (now (output .entry)) (now (starts .exit)) r ⌝ }
 {
     if !are_within(limits) {
         return Prepared::Refused(Refusal::OverCapacity);
@@ -122,7 +121,7 @@ fn prepare(
         Outcome::Refused(r) => Prepared::Refused(r),
         Outcome::Done => {
             let count = get_word(head, 8) as usize;
-            take_in(limits, time, count, batch, scratch, output)
+            take_in(limits, time, count, batch, scratch, output, starts)
         }
     }
 }
@@ -145,14 +144,14 @@ fn settle(
     scratch: &mut [u8],
     count: usize,
     cutoff: u64,
-    first: usize,
+    starts: &[u64],
     rows: usize,
 ) -> Settled
-    requires { ⌜ SettleNeeds (now held) (now batch) (now head) (now scratch) count first rows ⌝ }
-    ensures { λ r. ⌜ Settles (now (held .entry)) (now (batch .entry)) (now (head .entry)) (now (scratch .exit)) count cutoff first rows r ⌝ }
+    requires { ⌜ SettleNeeds (now held) (now batch) (now head) (now scratch) count (now starts) rows ⌝ }
+    ensures { λ r. ⌜ Settles (now (held .entry)) (now (batch .entry)) (now (head .entry)) (now (scratch .exit)) count cutoff (now (starts .entry)) rows r ⌝ }
 {
     let kept = unexpired(held, scratch, count, cutoff);
-    let admitted = admit_all(held, batch, head, scratch, kept, first, rows);
+    let admitted = admit_all(held, batch, head, scratch, kept, starts, rows);
     match admitted {
         Admitting::Refused(r) => Settled::Refused(r),
         Admitting::Entered {
@@ -203,17 +202,17 @@ fn decide_rows(
     head: &[u8],
     batch: &[u8],
     scratch: &mut [u8],
-    first: usize,
+    starts: &[u64],
     rows: usize,
     count: usize,
 ) -> Decision
-    requires { ⌜ Opened (areas (now log) (now held) (now head)) (limitsOf limits) time (now batch) (now scratch) first rows count ⌝ }
+    requires { ⌜ Opened (areas (now log) (now held) (now head)) (limitsOf limits) time (now batch) (now scratch) (now starts) rows count ⌝ }
     ensures { λ r. ⌜ Merges (areas (now (log .entry)) (now (held .entry)) (now (head .entry))) (limitsOf limits) time (now (batch .entry)) (now (scratch .exit)) r ⌝ }
 {
     let cutoff = oldest(time, limits.max_pending_age_ms);
     let end = 704 * count;
     let used = &held[0..end];
-    let settled = settle(used, batch, head, scratch, count, cutoff, first, rows);
+    let settled = settle(used, batch, head, scratch, count, cutoff, starts, rows);
     match settled {
         Settled::Refused(r) => Decision::Refused(r),
         Settled::Rows {
@@ -262,14 +261,21 @@ pub(crate) fn decide(
 ) -> Decision
     ensures { λ r. ⌜ Decides (areas (now (log .entry)) (now (held .entry)) (now (head .entry))) (limitsOf limits) time (now (batch .entry)) (now (scratch .entry)) (now (output .entry)) (now (scratch .exit)) r ⌝ }
 {
-    let prepared = prepare(limits, time, log, held, head, batch, scratch, output);
+    let mut starts = [0u64; 64];
+    let prepared = prepare(
+        limits,
+        time,
+        log,
+        held,
+        head,
+        batch,
+        scratch,
+        output,
+        &mut starts,
+    );
     match prepared {
         Prepared::Refused(r) => Decision::Refused(r),
-        Prepared::Ready {
-            first,
-            rows,
-            held: count,
-        } => decide_rows(
+        Prepared::Ready { rows, held: count } => decide_rows(
             limits,
             time,
             log,
@@ -277,7 +283,7 @@ pub(crate) fn decide(
             head,
             batch,
             scratch,
-            first,
+            &starts,
             rows,
             count,
         ),

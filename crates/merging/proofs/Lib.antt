@@ -3,6 +3,7 @@ pub mod Orders
 pub mod Clocks
 pub mod Listing
 pub mod Rows
+pub mod Starts
 pub mod Draining
 pub mod Admitting
 pub mod Keeps

@@ -1,8 +1,9 @@
 -- The batch and its validation, document 01, "The call". Assumes nothing.
-use Prim.Native.Nat.{ℕ, zero, suc, _+_, _-_, _^_}
+use mathlib.Core.Path.{_≡_}
+use Prim.Native.Nat.{ℕ, zero, suc, _+_, _-_, _^_, _<_}
 use mathlib.Core.Bool.{Bool, true, false, not, _&&_, _||_}
 use mathlib.Core.List.{List, [], _∷_}
-use lib.ListN.{length}
+use lib.ListN.{length, getD}
 use lib.Dec.{ltb, leb, eqb}
 use Rattle.stubs.specs.declared.ActorId.{ActorId}
 use Rattle.error.specs.declared.Refusal.{Refusal}
@@ -33,6 +34,20 @@ readRows s (suc n) at =
     after (readRow s at) (λ row at.
     after (readRows s n at) (λ rows at.
     got (row ∷ rows) at))
+
+-- the position past a row
+abbrev pub pastRow : Got BatchRow → ℕ
+pastRow (got row at) = at
+pastRow (bad r) = 0
+
+-- where the i-th of the rows from `at` on starts
+unfoldable pub startOf : List ℕ → ℕ → ℕ → ℕ
+startOf s at zero = at
+startOf s at (suc i) = startOf s (pastRow (readRow s at)) i
+
+-- the first n of starts are where n rows from `first` on start
+abbrev pub StartsAt : List ℕ → List ℕ → ℕ → ℕ → Type 0
+StartsAt s starts first n = (i : ℕ) → i < n → getD starts i 0 ≡ startOf s first i
 
 abbrev pub whole : {A : Type 0} → List ℕ → Got A → Answer A
 whole s (got a at) = unless (eqb at (length s)) Unreadable (done a)

@@ -6,7 +6,7 @@ use mathlib.Core.Logic.{inl}
 use mathlib.Core.List.{List, [], _∷_, _++_, append-assoc, append-nil}
 use native.Mathlib.Omega.{arith}
 use lib.Dec.{leb}
-use lib.ListN.{length}
+use lib.ListN.{length, getD}
 use borrow.Author.Tests.{le-leb, lt-leb}
 use Rattle.words.specs.Be.{get64}
 use Rattle.stubs.specs.declared.ActorId.{ActorId}
@@ -15,10 +15,11 @@ use Rattle.error.specs.Answer.{andThen, Got, got, bad, after}
 use Rattle.row.specs.Slots.{slotAt, slotOk, slotsAt, decodeHeld}
 use Rattle.row.specs.Reading.{BatchRow, readRow}
 use Rattle.row.proofs.Ops.{word-part}
-use Rattle.merging.specs.Batch.{readRows}
+use Rattle.merging.specs.Batch.{readRows, pastRow, startOf, StartsAt}
 use Rattle.merging.specs.Merging.{admit, admitAll, expireBy, unexpired}
+use Rattle.merging.proofs.Starts.{start-next}
 use Rattle.working.specs.Refs.{isRead, refsOk, workRows, cells}
-use Rattle.working.specs.Promises.{Working, Unexpired, AdmitsAll}
+use Rattle.working.specs.Promises.{Working, Unexpired, Begun, AdmitsAll}
 use Rattle.working.specs.Columns.{Written}
 use Rattle.working.specs.Keys.{Keyed}
 use Rattle.working.specs.Entry.{admitted, Admits}
@@ -64,8 +65,8 @@ length-in s (suc n) at t =
     let r : (isRead (readRows s n (f .1)) ≡ true) × (rowsIn (readRows s (suc n) at) ≡ (f .0) ∷ rowsIn (readRows s n (f .1))) = rest-read s n at t (f .0) (f .1) (f .2) in
     ap length (r .1) ∙ ap suc (length-in s n (f .1) (r .0))
 
--- ---- admission: left working rows, after i rows of the batch, the next of which starts at `at`
-pub record Entering (c : List (ℕ × ℕ)) (held batch s₀ ks₀ : List ℕ) (n first rows : ℕ) (s ks : List ℕ) (left duplicates at i : ℕ) : Type 0 where
+-- ---- admission: left working rows, after i of the rows from `first` on
+pub record Entering (c : List (ℕ × ℕ)) (held batch s₀ ks₀ : List ℕ) (n first rows : ℕ) (s ks : List ℕ) (left duplicates i : ℕ) : Type 0 where
   pub same : length s ≡ length s₀
   pub same-keys : length ks ≡ length ks₀
   pub turn : i ≤ rows
@@ -76,13 +77,14 @@ pub record Entering (c : List (ℕ × ℕ)) (held batch s₀ ks₀ : List ℕ) (
   pub refs : refsOk held batch (cells s 0 left) ≡ true
   pub keyed : Keyed held batch s ks left
   pub space : 5 * (n + rows) ≤ length ks₀
-  pub read : isRead (readRows batch (rows - i) at) ≡ true
-  pub whole : (time : ℕ) → admitAll c time (admitted held batch time (cells s 0 left) duplicates) (rowsIn (readRows batch (rows - i) at))
+  pub read : isRead (readRows batch (rows - i) (startOf batch first i)) ≡ true
+  pub whole : (time : ℕ) → admitAll c time (admitted held batch time (cells s 0 left) duplicates) (rowsIn (readRows batch (rows - i) (startOf batch first i)))
       ≡ admitAll c time (admitted held batch time (cells s₀ 0 n) 0) (rowsIn (readRows batch rows first))
 
-pub entering-start : (c : List (ℕ × ℕ)) (held batch s ks : List ℕ) (n first rows : ℕ) → Working held batch s n → isRead (readRows batch rows first) ≡ true
+entering-start : (c : List (ℕ × ℕ)) (held batch s ks : List ℕ) (n first rows : ℕ) → Working held batch s n → isRead (readRows batch rows first) ≡ true
     → n ≤ 64 → rows ≤ 64 → 16 * (n + rows) ≤ length s → Keyed held batch s ks n → 5 * (n + rows) ≤ length ks
-    → Entering c held batch s ks n first rows s ks n 0 first 0
+    → Entering c held batch s ks n first rows s ks n 0 0
+unfolding startOf
 entering-start c held batch s ks n first rows w t f g h x y =
     let e : rows - 0 ≡ rows = omega arith in
     record {
@@ -100,12 +102,12 @@ entering-start c held batch s ks n first rows w t f g h x y =
       whole = λ time. rw e;
     }
 
-module _ {c : List (ℕ × ℕ)} {held batch s₀ ks₀ : List ℕ} {n first rows : ℕ} {s ks : List ℕ} {left duplicates at i : ℕ}
-    (g : Entering c held batch s₀ ks₀ n first rows s ks left duplicates at i) (all : isRead (readRows batch rows first) ≡ true) where
+module _ {c : List (ℕ × ℕ)} {held batch s₀ ks₀ : List ℕ} {n first rows : ℕ} {s ks : List ℕ} {left duplicates i : ℕ}
+    (g : Entering c held batch s₀ ks₀ n first rows s ks left duplicates i) (all : isRead (readRows batch rows first) ≡ true) where
   in-all : (bs : List BatchRow) (end : ℕ) → readRows batch rows first ≡ got bs end → rowsIn (readRows batch rows first) ≡ bs
   in-all bs end e = rw e
 
-  pub entering-end : rows ≤ i → (time : ℕ) (bs : List BatchRow) (end : ℕ) → readRows batch rows first ≡ got bs end
+  entering-end : rows ≤ i → (time : ℕ) (bs : List BatchRow) (end : ℕ) → readRows batch rows first ≡ got bs end
       → AdmitsAll c held batch time s₀ s n bs (Entered left duplicates)
   unfolding admitAll readRows
   entering-end h time bs end e =
@@ -117,13 +119,16 @@ module _ {c : List (ℕ × ℕ)} {held batch s₀ ks₀ : List ℕ} {n first row
       }
 
   module _ (h : i < rows) where
+    abbrev at : ℕ
+    at = startOf batch first i
+
     one : rows - i ≡ suc (rows - (i + 1))
     one = omega arith
 
     read-one : isRead (readRows batch (suc (rows - (i + 1))) at) ≡ true
     read-one = rw one at (g .read)
 
-    pub needs-one : Working held batch s left × (isRead (readRow batch at) ≡ true) × (16 * left + 16 ≤ length s) × (5 * left + 5 ≤ length ks)
+    needs-one : Working held batch s left × (isRead (readRow batch at) ≡ true) × (16 * left + 16 ≤ length s) × (5 * left + 5 ≤ length ks)
     needs-one = (
       record { room = omega (arith, g .room, g .total, g .same); refs = g .refs },
       row-is-read batch (rows - (i + 1)) at read-one,
@@ -131,18 +136,24 @@ module _ {c : List (ℕ × ℕ)} {held batch s₀ ks₀ : List ℕ} {n first row
       omega (arith, g .space, g .total, g .same-keys),
     )
 
-    unrolled : (time : ℕ) (b : BatchRow) (next : ℕ) → readRow batch at ≡ got b next
-        → andThen (admit c time (admitted held batch time (cells s 0 left) duplicates) b) (λ a. admitAll c time a (rowsIn (readRows batch (rows - (i + 1)) next)))
-        ≡ admitAll c time (admitted held batch time (cells s₀ 0 n) 0) (rowsIn (readRows batch rows first))
-    unfolding admitAll
-    unrolled time b next e =
-        let r : rowsIn (readRows batch (rows - i) at) ≡ b ∷ rowsIn (readRows batch (rows - (i + 1)) next) =
-        rw one (rest-read batch (rows - (i + 1)) at read-one b next e .1) in
-        rw r at (g .whole time)
+    module _ (b : BatchRow) (next : ℕ) (e : readRow batch at ≡ got b next) where
+      rest : (isRead (readRows batch (rows - (i + 1)) (startOf batch first (i + 1))) ≡ true)
+          × (rowsIn (readRows batch (suc (rows - (i + 1))) at) ≡ b ∷ rowsIn (readRows batch (rows - (i + 1)) (startOf batch first (i + 1))))
+      rest =
+          let q : startOf batch first (i + 1) ≡ next = start-next batch first i ∙ ap pastRow e in
+          rw q (rest-read batch (rows - (i + 1)) at read-one b next e)
 
-    pub entering-duplicate : (t us : List ℕ) (next : ℕ) → length us ≡ length ks → Admits c held batch s t us left at (answer.Duplicate next)
-        → Entering c held batch s₀ ks₀ n first rows t us left (duplicates + 1) next (i + 1)
-    entering-duplicate t us next lk (is-duplicate b e f q y) = record {
+      unrolled : (time : ℕ)
+          → andThen (admit c time (admitted held batch time (cells s 0 left) duplicates) b) (λ a. admitAll c time a (rowsIn (readRows batch (rows - (i + 1)) (startOf batch first (i + 1)))))
+          ≡ admitAll c time (admitted held batch time (cells s₀ 0 n) 0) (rowsIn (readRows batch rows first))
+      unfolding admitAll
+      unrolled time =
+          let r : rowsIn (readRows batch (rows - i) at) ≡ b ∷ rowsIn (readRows batch (rows - (i + 1)) (startOf batch first (i + 1))) = rw one (rest .1) in
+          rw r at (g .whole time)
+
+    entering-duplicate : (t us : List ℕ) → length us ≡ length ks → Admits c held batch s t us left at answer.Duplicate
+        → Entering c held batch s₀ ks₀ n first rows t us left (duplicates + 1) (i + 1)
+    entering-duplicate t us lk (is-duplicate b next e f q y) = record {
       same = ap length q ∙ g .same;
       same-keys = lk ∙ g .same-keys;
       turn = omega arith;
@@ -153,13 +164,13 @@ module _ {c : List (ℕ × ℕ)} {held batch s₀ ks₀ : List ℕ} {n first row
       refs = rw q (g .refs);
       keyed = y;
       space = g .space;
-      read = rest-read batch (rows - (i + 1)) at read-one b next e .0;
-      whole = λ time. rw q (rw (f time duplicates) at (unrolled time b next e));
+      read = rest b next e .0;
+      whole = λ time. rw q (rw (f time duplicates) at (unrolled b next e time));
     }
 
-    pub entering-entered : (t us : List ℕ) (next : ℕ) → length t ≡ length s → length us ≡ length ks → Admits c held batch s t us left at (answer.Entered next)
-        → Entering c held batch s₀ ks₀ n first rows t us (left + 1) duplicates next (i + 1)
-    entering-entered t us next len lk (is-entered b e f r y) = record {
+    entering-entered : (t us : List ℕ) → length t ≡ length s → length us ≡ length ks → Admits c held batch s t us left at answer.Entered
+        → Entering c held batch s₀ ks₀ n first rows t us (left + 1) duplicates (i + 1)
+    entering-entered t us len lk (is-entered b next e f r y) = record {
       same = len ∙ g .same;
       same-keys = lk ∙ g .same-keys;
       turn = omega arith;
@@ -170,17 +181,57 @@ module _ {c : List (ℕ × ℕ)} {held batch s₀ ks₀ : List ℕ} {n first row
       refs = r;
       keyed = y;
       space = g .space;
-      read = rest-read batch (rows - (i + 1)) at read-one b next e .0;
-      whole = λ time. rw (f time duplicates) at (unrolled time b next e);
+      read = rest b next e .0;
+      whole = λ time. rw (f time duplicates) at (unrolled b next e time);
     }
 
-    pub entering-conflict : (t us : List ℕ) (actor : ActorId) (seq : ℕ) → Admits c held batch s t us left at (answer.Conflict actor seq)
+    entering-conflict : (t us : List ℕ) (actor : ActorId) (seq : ℕ) → Admits c held batch s t us left at (answer.Conflict actor seq)
         → (time : ℕ) (bs : List BatchRow) (end : ℕ) → readRows batch rows first ≡ got bs end
         → AdmitsAll c held batch time s₀ t n bs (Refused (refusal.Conflict actor seq))
     entering-conflict t us actor seq (is-conflict b next e f) time bs end q = record {
-      answer = rw (f time duplicates) at (unrolled time b next e) ∙ ap (λ (l : List BatchRow). admitAll c time (admitted held batch time (cells s₀ 0 n) 0) l) (in-all bs end q);
+      answer = rw (f time duplicates) at (unrolled b next e time) ∙ ap (λ (l : List BatchRow). admitAll c time (admitted held batch time (cells s₀ 0 n) 0) l) (in-all bs end q);
       refs = omega arith;
     }
+
+-- the same wherever the rows start, so long as `starts` says so
+pub record Enters (c : List (ℕ × ℕ)) (held batch starts s₀ ks₀ : List ℕ) (n rows : ℕ) (s ks : List ℕ) (left duplicates i : ℕ) : Type 0 where
+  pub from : (first : ℕ) → StartsAt batch starts first rows → isRead (readRows batch rows first) ≡ true → Entering c held batch s₀ ks₀ n first rows s ks left duplicates i
+
+pub enters-start : (c : List (ℕ × ℕ)) (held batch starts s ks : List ℕ) (n rows : ℕ) → Working held batch s n
+    → n ≤ 64 → rows ≤ 64 → 16 * (n + rows) ≤ length s → Keyed held batch s ks n → 5 * (n + rows) ≤ length ks
+    → Enters c held batch starts s ks n rows s ks n 0 0
+enters-start c held batch starts s ks n rows w f g h x y = record { from = λ first st rd. entering-start c held batch s ks n first rows w rd f g h x y }
+
+module _ {c : List (ℕ × ℕ)} {held batch starts s₀ ks₀ : List ℕ} {n rows : ℕ} {s ks : List ℕ} {left duplicates i : ℕ}
+    (g : Enters c held batch starts s₀ ks₀ n rows s ks left duplicates i) where
+  pub enters-end : rows ≤ i → (time first : ℕ) (bs : List BatchRow) (end : ℕ) → StartsAt batch starts first rows → readRows batch rows first ≡ got bs end
+      → AdmitsAll c held batch time s₀ s n bs (Entered left duplicates)
+  enters-end h time first bs end st e =
+      let rd : isRead (readRows batch rows first) ≡ true = rw e in
+      entering-end (g .from first st rd) rd h time bs end e
+
+  pub begun : (w : Begun batch starts rows) → Entering c held batch s₀ ks₀ n (w .first) rows s ks left duplicates i
+  begun w = g .from (w .first) (w .starts-are) (w .read)
+
+  module _ (h : i < rows) where
+    pub begun-needs : Begun batch starts rows
+        → Working held batch s left × (isRead (readRow batch (getD starts i 0)) ≡ true) × (16 * left + 16 ≤ length s) × (5 * left + 5 ≤ length ks)
+    begun-needs w = rw (w .starts-are i h) (needs-one (begun w) (w .read) h)
+
+    pub enters-duplicate : (t us : List ℕ) → length us ≡ length ks → Admits c held batch s t us left (getD starts i 0) answer.Duplicate
+        → Enters c held batch starts s₀ ks₀ n rows t us left (duplicates + 1) (i + 1)
+    enters-duplicate t us lk a = record { from = λ first st rd. entering-duplicate (g .from first st rd) rd h t us lk (rw (st i h) at a) }
+
+    pub enters-entered : (t us : List ℕ) → length t ≡ length s → length us ≡ length ks → Admits c held batch s t us left (getD starts i 0) answer.Entered
+        → Enters c held batch starts s₀ ks₀ n rows t us (left + 1) duplicates (i + 1)
+    enters-entered t us len lk a = record { from = λ first st rd. entering-entered (g .from first st rd) rd h t us len lk (rw (st i h) at a) }
+
+    pub enters-conflict : (t us : List ℕ) (actor : ActorId) (seq : ℕ) → Admits c held batch s t us left (getD starts i 0) (answer.Conflict actor seq)
+        → (time first : ℕ) (bs : List BatchRow) (end : ℕ) → StartsAt batch starts first rows → readRows batch rows first ≡ got bs end
+        → AdmitsAll c held batch time s₀ t n bs (Refused (refusal.Conflict actor seq))
+    enters-conflict t us actor seq a time first bs end st e =
+        let rd : isRead (readRows batch rows first) ≡ true = rw e in
+        entering-conflict (g .from first st rd) rd h t us actor seq (rw (st i h) at a) time bs end e
 
 pub answered : {c : List (ℕ × ℕ)} {held batch s t us : List ℕ} {n at : ℕ} {a b : Admit} → a ≡ b → Admits c held batch s t us n at a → Admits c held batch s t us n at b
 answered e v = rw e at v

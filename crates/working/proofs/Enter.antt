@@ -35,23 +35,23 @@ use Rattle.working.specs.declared.looks.Found.{Found}
 use Rattle.working.specs.declared.looks.Found.the-variants.{At, Nothing}
 use Rattle.working.specs.declared.entering.Admit.the-variants as answer
 use Rattle.working.proofs.Cells.{length-cells, cells-at, refs-of, of-refs, refs-ins}
-use Rattle.working.proofs.Rows.{row-time, work-batch, row-batch, batch-ok, after-read}
+use Rattle.working.proofs.Rows.{row-time, work-batch, key-batch, batch-ok, after-read}
 use Rattle.working.proofs.Same.{key-numbers}
 use Rattle.working.proofs.Keying.{keyed-in}
 use Rattle.working.proofs.Searching.{found-below}
 
 -- ---- a row that was read from the batch
-abbrev pub readOf : List ℕ → RowRead → BatchRow
+abbrev readOf : List ℕ → RowRead → BatchRow
 readOf s r = record { row = rowOf s (r .op); closing = record { verdict = r .verdict; outcome = r .outcome; detail = r .detail } }
 
 module _ (s : List ℕ) (at : ℕ) (r : RowRead) (p : ReadsRow s at r) where
   by : (x : Reading) → r .reading ≡ x → rowReadBy x s r ≡ readRow s at
   by x e = rw (← e) (p .is)
 
-  pub read-got : (next : ℕ) → r .reading ≡ ended.Read next → readRow s at ≡ got (readOf s r) next
+  read-got : (next : ℕ) → r .reading ≡ ended.Read next → readRow s at ≡ got (readOf s r) next
   read-got next e = sym (by (ended.Read next) e)
 
-  pub read-not : (f : Refusal) → isRead (readRow s at) ≡ true → r .reading ≡ ended.Refused f → ⊥
+  read-not : (f : Refusal) → isRead (readRow s at) ≡ true → r .reading ≡ ended.Refused f → ⊥
   read-not f t e =
       let q : readRow s at ≡ bad f = sym (by (ended.Refused f) e) in
       let u : isRead (readRow s at) ≡ false = rw q in
@@ -63,7 +63,7 @@ module _ (s : List ℕ) (at : ℕ) (r : RowRead) (p : ReadsRow s at r) where
   ended-by (ended.Refused f) e t = absurd (read-not f t e)
 
   -- the reading ended well
-  pub read-ended : isRead (readRow s at) ≡ true → (next : ℕ) × (r .reading ≡ ended.Read next)
+  read-ended : isRead (readRow s at) ≡ true → (next : ℕ) × (r .reading ≡ ended.Read next)
   read-ended t = ended-by (r .reading) refl t
 
   pub read-row-at : isRead (readRow s at) ≡ true → rowOf s (r .op) ≡ batchRowAt s at
@@ -165,74 +165,85 @@ met-look (met-at q) = q
 none-look : {r : Row} {held batch : List ℕ} {time : ℕ} {ks : List ℕ} → Met r held batch time ks Nothing → look r (workRows held batch time ks) ≡ absent
 none-look (met-none q) = q
 
--- ---- the reference of a row that was read
-module _ (held batch : List ℕ) (at : ℕ) (r : RowRead) (p : ReadsRow batch at r) (next : ℕ) (er : r .reading ≡ ended.Read next) where
-  pub key-read : KeyOf (refRow held batch (64 + at)) (record { stamp = r .op .timestamp; actor = r .op .actor; seq = r .op .seq })
-  unfolding rowOf
-  key-read =
+-- ---- the reference of a row of the batch
+module _ (held batch : List ℕ) (at : ℕ) where
+  pub key-ref : (key : Key) → KeyOf (batchRowAt batch at) key → KeyOf (refRow held batch (64 + at)) key
+  key-ref key o =
       let e : 64 + at - 64 ≡ at = omega arith in
-      let q : refRow held batch (64 + at) ≡ rowOf batch (r .op) =
-      row-batch held batch (64 + at) (omega arith) ∙ rw e (sym (read-row-at batch at r p (rw (read-got batch at r p next er)))) in
-      record { stamp = ap (λ (x : Row). x .stamp) (sym q); author = ap (λ (x : Row). x .author) (sym q); seq = ap (λ (x : Row). x .seq) (sym q) }
+      key-batch held batch (64 + at) key (omega arith) (rw e o)
 
-  pub ref-read : refOk held batch (64 + at) ≡ true
-  ref-read =
+  pub ref-read : isRead (readRow batch at) ≡ true → refOk held batch (64 + at) ≡ true
+  ref-read d =
       let e : 64 + at - 64 ≡ at = omega arith in
-      batch-ok held batch (64 + at) (omega arith) (rw (e, read-got batch at r p next er))
+      batch-ok held batch (64 + at) (omega arith) (rw e d)
 
--- ---- the answers
-module _ (c : List (ℕ × ℕ)) (held batch s t us : List ℕ) (n at : ℕ) (r : RowRead) (p : ReadsRow batch at r) (next : ℕ) (er : r .reading ≡ ended.Read next)
-    (have : ℕ) (eh : have ≡ get c (r .op .actor .0)) where
-  abbrev own : Row
-  own = rowOf batch (r .op)
+-- ---- the answers: b is the row at `at`, known by its key
+module _ (c : List (ℕ × ℕ)) (held batch s t us : List ℕ) (n at : ℕ) (b : BatchRow) (next : ℕ) (er : readRow batch at ≡ got b next)
+    (key : Key) (o : KeyOf (batchRowAt batch at) key) (have : ℕ) (eh : have ≡ get c (key .actor .0)) where
+  row-is : batchRowAt batch at ≡ b .row
+  unfolding batchRowAt
+  row-is = ap (λ (g : Got BatchRow). arrivedBy 0 g .row) er
+
+  author-is : key .actor .0 ≡ b .row .author
+  author-is = o .author ∙ ap (λ (x : Row). x .author) row-is
+
+  seq-is : key .seq ≡ b .row .seq
+  seq-is = o .seq ∙ ap (λ (x : Row). x .seq) row-is
+
+  by-row : (f : Found) → f ≡ firstWhere (idRef (key .actor .0) (key .seq) held batch) (cells s 0 n)
+      → f ≡ firstWhere (idRef (b .row .author) (b .row .seq) held batch) (cells s 0 n)
+  by-row f e = rw (← author-is, ← seq-is) e
 
   abbrev Ans : ℕ → ℕ → Answer Admitted
-  Ans time dup = admit c time (admitted held batch time (cells s 0 n) dup) (readOf batch r)
+  Ans time dup = admit c time (admitted held batch time (cells s 0 n) dup) b
 
-  tested : (time dup : ℕ) (b : Bool) → leb (r .op .seq) have ≡ b
+  tested : (time dup : ℕ) (x : Bool) → leb (key .seq) have ≡ x
       → Ans time dup
-      ≡ pick b (done (duplicate (admitted held batch time (cells s 0 n) dup))) (whenKnown (look own (workRows held batch time (cells s 0 n))) time (readOf batch r) (admitted held batch time (cells s 0 n) dup))
-  unfolding admit rowOf
-  tested time dup b e = rw (← eh, e)
+      ≡ pick x (done (duplicate (admitted held batch time (cells s 0 n) dup))) (whenKnown (look (b .row) (workRows held batch time (cells s 0 n))) time b (admitted held batch time (cells s 0 n) dup))
+  unfolding admit
+  tested time dup x e = rw (← author-is, ← seq-is, ← eh, e)
 
-  pub admit-old : r .op .seq ≤ have → t ≡ s → Keyed held batch t us n → Admits c held batch s t us n at (answer.Duplicate next)
-  admit-old h q y = is-duplicate (readOf batch r) (read-got batch at r p next er) (λ time dup. tested time dup true (le-leb (r .op .seq) have h)) q y
+  pub admit-old : key .seq ≤ have → t ≡ s → Keyed held batch t us n → Admits c held batch s t us n at answer.Duplicate
+  admit-old h q y = is-duplicate b next er (λ time dup. tested time dup true (le-leb (key .seq) have h)) q y
 
-  module _ (h : have < r .op .seq) where
-    known : (time dup : ℕ) (x : Known) → look own (workRows held batch time (cells s 0 n)) ≡ x
-        → Ans time dup ≡ whenKnown x time (readOf batch r) (admitted held batch time (cells s 0 n) dup)
-    known time dup x e = tested time dup false (lt-leb (r .op .seq) have h) ∙ rw e
+  module _ (h : have < key .seq) where
+    known : (time dup : ℕ) (x : Known) → look (b .row) (workRows held batch time (cells s 0 n)) ≡ x
+        → Ans time dup ≡ whenKnown x time b (admitted held batch time (cells s 0 n) dup)
+    known time dup x e = tested time dup false (lt-leb (key .seq) have h) ∙ rw e
 
-    module _ (j k : ℕ) (e : At j ≡ firstWhere (idRef (r .op .actor .0) (r .op .seq) held batch) (cells s 0 n)) (ek : k ≡ get64 s (16 * j))
-        (b : Bool) (eb : b ≡ sameContent (refRow held batch k) own) where
+    module _ (r : RowRead) (p : ReadsRow batch at r) (j k : ℕ) (e : At j ≡ firstWhere (idRef (key .actor .0) (key .seq) held batch) (cells s 0 n))
+        (ek : k ≡ get64 s (16 * j)) (x : Bool) (ex : x ≡ sameContent (refRow held batch k) (rowOf batch (r .op))) where
       at-j : getD (cells s 0 n) j 0 ≡ k
-      at-j = cells-at s 0 n j (found-below (idRef (r .op .actor .0) (r .op .seq) held batch) s n j e) ∙ ap (get64 s) (omega arith) ∙ sym ek
+      at-j = cells-at s 0 n j (found-below (idRef (key .actor .0) (key .seq) held batch) s n j e) ∙ ap (get64 s) (omega arith) ∙ sym ek
+
+      alike : x ≡ sameContent (refRow held batch k) (b .row)
+      alike = ex ∙ ap (sameContent (refRow held batch k)) (read-row-at batch at r p (rw er) ∙ row-is)
 
       told : (time dup : ℕ) → Ans time dup
-          ≡ unless b (refusal.Conflict (r .op .actor) (r .op .seq)) (done (duplicate (admitted held batch time (cells s 0 n) dup)))
-      unfolding whenKnown rowOf
+          ≡ unless x (refusal.Conflict (key .actor) (key .seq)) (done (duplicate (admitted held batch time (cells s 0 n) dup)))
+      unfolding whenKnown
       told time dup =
-          known time dup (present (workRow held batch time k)) (rw at-j at (met-look (met-is own held batch time (cells s 0 n) (At j) e)))
-          ∙ rw (← row-time held batch k time, ← eb)
+          known time dup (present (workRow held batch time k)) (rw at-j at (met-look (met-is (b .row) held batch time (cells s 0 n) (At j) (by-row (At j) e))))
+          ∙ rw (← row-time held batch k time, ← alike, ← author-is, ← seq-is)
 
-      pub admit-same : b ≡ true → t ≡ s → Keyed held batch t us n → Admits c held batch s t us n at (answer.Duplicate next)
-      admit-same q z y = is-duplicate (readOf batch r) (read-got batch at r p next er) (λ time dup. told time dup ∙ rw q) z y
+      pub admit-same : x ≡ true → t ≡ s → Keyed held batch t us n → Admits c held batch s t us n at answer.Duplicate
+      admit-same q z y = is-duplicate b next er (λ time dup. told time dup ∙ rw q) z y
 
-      pub admit-other : b ≡ false → Admits c held batch s t us n at (answer.Conflict (r .op .actor) (r .op .seq))
-      admit-other q = is-conflict {actor = r .op .actor} {seq = r .op .seq} (readOf batch r) next (read-got batch at r p next er) (λ time dup. told time dup ∙ rw q)
+      pub admit-other : x ≡ false → Admits c held batch s t us n at (answer.Conflict (key .actor) (key .seq))
+      admit-other q = is-conflict {actor = key .actor} {seq = key .seq} b next er (λ time dup. told time dup ∙ rw q)
 
-    pub admit-new : Nothing ≡ firstWhere (idRef (r .op .actor .0) (r .op .seq) held batch) (cells s 0 n) → Puts held batch s t us n (64 + at)
-        → Admits c held batch s t us n at (answer.Entered next)
-    unfolding whenKnown rowOf
-    admit-new e q = is-entered (readOf batch r) (read-got batch at r p next er) (λ time dup. new time dup) (q .refs) (q .keyed)
+    pub admit-new : Nothing ≡ firstWhere (idRef (key .actor .0) (key .seq) held batch) (cells s 0 n) → Puts held batch s t us n (64 + at)
+        → Admits c held batch s t us n at answer.Entered
+    unfolding whenKnown
+    admit-new e q = is-entered b next er (λ time dup. new time dup) (q .refs) (q .keyed)
       where
-        arrives : (time : ℕ) → workRow held batch time (64 + at) ≡ arrived time (readOf batch r)
+        arrives : (time : ℕ) → workRow held batch time (64 + at) ≡ arrived time b
         arrives time =
             let f : 64 + at - 64 ≡ at = omega arith in
-            work-batch held batch (64 + at) time (omega arith) ∙ rw (f, read-got batch at r p next er)
+            work-batch held batch (64 + at) time (omega arith) ∙ rw (f, er)
 
         new : (time dup : ℕ) → Ans time dup ≡ done (admitted held batch time (cells t 0 (n + 1)) dup)
         new time dup =
-            known time dup absent (none-look (met-is own held batch time (cells s 0 n) Nothing e))
+            known time dup absent (none-look (met-is (b .row) held batch time (cells s 0 n) Nothing (by-row Nothing e)))
             ∙ ap (λ (l : List HeldRow). done (record { working = l; duplicates = dup }))
             (ap (λ (x : HeldRow). enter x (workRows held batch time (cells s 0 n))) (sym (arrives time)) ∙ sym (q .rows time))

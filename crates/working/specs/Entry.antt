@@ -32,17 +32,17 @@ pub record Puts (held batch s t ks : List ℕ) (n k : ℕ) : Type 0 where
   pub refs : refsOk held batch (cells t 0 (n + 1)) ≡ true
   pub keyed : Keyed held batch t ks (n + 1)
 
--- the row at `at`, which ends at `next`; ks the keys then
+-- the row at `at`; ks the keys then
 pub data Admits (clock : List (ℕ × ℕ)) (held batch s t ks : List ℕ) (n at : ℕ) : Admit → Type 0 where
-  is-duplicate : {next : ℕ} (b : BatchRow) → readRow batch at ≡ got b next
+  is-duplicate : (b : BatchRow) (next : ℕ) → readRow batch at ≡ got b next
       → ((time duplicates : ℕ)
       → admit clock time (admitted held batch time (cells s 0 n) duplicates) b ≡ done (admitted held batch time (cells s 0 n) (duplicates + 1)))
-      → t ≡ s → Keyed held batch t ks n → Admits clock held batch s t ks n at (Duplicate next)
+      → t ≡ s → Keyed held batch t ks n → Admits clock held batch s t ks n at Duplicate
   is-conflict : {actor : ActorId} {seq : ℕ} (b : BatchRow) (next : ℕ) → readRow batch at ≡ got b next
       → ((time duplicates : ℕ)
       → admit clock time (admitted held batch time (cells s 0 n) duplicates) b ≡ refused (refusal.Conflict actor seq))
       → Admits clock held batch s t ks n at (Conflict actor seq)
-  is-entered : {next : ℕ} (b : BatchRow) → readRow batch at ≡ got b next
+  is-entered : (b : BatchRow) (next : ℕ) → readRow batch at ≡ got b next
       → ((time duplicates : ℕ)
       → admit clock time (admitted held batch time (cells s 0 n) duplicates) b ≡ done (admitted held batch time (cells t 0 (n + 1)) duplicates))
-      → refsOk held batch (cells t 0 (n + 1)) ≡ true → Keyed held batch t ks (n + 1) → Admits clock held batch s t ks n at (Entered next)
+      → refsOk held batch (cells t 0 (n + 1)) ≡ true → Keyed held batch t ks (n + 1) → Admits clock held batch s t ks n at Entered

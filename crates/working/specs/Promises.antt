@@ -8,9 +8,9 @@ use Rattle.error.specs.declared.Refusal.{Refusal}
 use Rattle.error.specs.Answer.{Answer, done, refused, Got, got}
 use Rattle.row.specs.Rows.{Row, HeldRow}
 use Rattle.row.specs.Reading.{BatchRow}
-use Rattle.merging.specs.Batch.{readRows}
+use Rattle.merging.specs.Batch.{readRows, StartsAt}
 use Rattle.merging.specs.Merging.{Admitted, admitAll, Drained, drain, unexpired}
-use Rattle.working.specs.Refs.{refsOk, workRows, cells}
+use Rattle.working.specs.Refs.{isRead, refsOk, workRows, cells}
 use Rattle.working.specs.declared.Admitting.{Admitting}
 use Rattle.working.specs.declared.Admitting.the-variants.{Entered, Refused}
 use Rattle.working.specs.declared.Draining.{Draining}
@@ -36,6 +36,13 @@ admittingOf held batch time t (Refused r) = refused r
 abbrev pub AdmittedRefs : List ℕ → List ℕ → List ℕ → ℕ → Admitting → Type 0
 AdmittedRefs held batch t most (Entered working duplicates) = Working held batch t working × (working ≤ most)
 AdmittedRefs held batch t most (Refused r) = 0 ≤ most
+
+-- n rows that are read, each at its place in starts
+pub record Begun (batch starts : List ℕ) (n : ℕ) : Type 0 where
+  pub first : ℕ
+  pub starts-are : StartsAt batch starts first n
+  pub read : isRead (readRows batch n first) ≡ true
+  pub room : n ≤ length starts
 
 pub record AdmitsAll (clock : List (ℕ × ℕ)) (held batch : List ℕ) (time : ℕ) (s t : List ℕ) (n : ℕ) (rows : List BatchRow) (r : Admitting) : Type 0 where
   pub answer : admittingOf held batch time t r

@@ -4,9 +4,9 @@ use crate::keys::key_at;
 use crate::keys::put_key;
 use crate::looks::Found;
 use crate::looks::Key;
+use crate::looks::batch_key;
 use crate::scratch::put_entry;
 use crate::ticking::clock_get;
-use row::Reading;
 use row::reader::read_row;
 use stubs::ActorId;
 use words::raw::get_word;
@@ -24,11 +24,11 @@ ghost use Rattle.working.specs.Looks.{refRow, KeyOf, numbersOf, idRef, b
 ghost use Rattle.working.specs.Keys.{keyAt, Keyed};
 ghost use Rattle.working.specs.Entry.{Entrant, Puts, Admits};
 
-// What became of a row: a duplicate or entered, and where the next one starts, or the conflict.
+// What became of a row.
 pub(crate) enum Admit {
-    Duplicate(usize),
+    Duplicate,
     Conflict { actor: ActorId, seq: u64 },
-    Entered(usize),
+    Entered,
 }
 
 // By wall time, counter and author of the stamp, then author, then sequence.
@@ -113,7 +113,7 @@ fn enter(scratch: &mut [u8], keys: &mut [u64], n: usize, k: u64, key: Key)
     put_key(keys, n, i, key);
 }
 
-// The row at `at` of the batch.
+// The row at `at` of the batch. What it is known by decides, but for one that is there already, which is read whole.
 pub(crate) fn admit_one(
     held: &[u8],
     batch: &[u8],
@@ -128,31 +128,21 @@ pub(crate) fn admit_one(
     requires { ⌜ Working (now held) (now batch) (now scratch) n × (isRead (readRow (now batch) at) ≡ true) × Clocked (now authors) (now numbers) count × (16 * n + 16 ≤ length (now scratch)) × Keyed (now held) (now batch) (now scratch) (now keys) n × (5 * n + 5 ≤ length (now keys)) ⌝ }
     ensures { λ r. ⌜ Admits (ticks (now (authors .entry)) (now (numbers .entry)) count) (now (held .entry)) (now (batch .entry)) (now (scratch .entry)) (now (scratch .exit)) (now (keys .exit)) n at r ⌝ }
 {
-    let row = read_row(batch, at);
-    let reading = row.reading;
-    let Reading::Read(next) = reading else {
-        return Admit::Duplicate(at);
-    };
-    let op = row.op;
-    let actor = op.actor;
-    let seq = op.seq;
+    let key = batch_key(batch, at);
+    let actor = key.actor;
+    let seq = key.seq;
     let have = clock_get(authors, numbers, count, actor.0);
     if seq <= have {
-        return Admit::Duplicate(next);
+        return Admit::Duplicate;
     }
     let Found::At(j) = seek(keys, n, actor, seq) else {
-        let stamp = op.timestamp;
-        let key = Key {
-            stamp: stamp,
-            actor: actor,
-            seq: seq,
-        };
         enter(scratch, keys, n, (64 + at) as u64, key);
-        return Admit::Entered(next);
+        return Admit::Entered;
     };
     let k = get_word(scratch, 16 * j);
-    if same_ref(held, batch, k, op) {
-        return Admit::Duplicate(next);
+    let row = read_row(batch, at);
+    if same_ref(held, batch, k, row.op) {
+        return Admit::Duplicate;
     }
     Admit::Conflict {
         actor: actor,

@@ -64,7 +64,8 @@ fn no_key() -> Key {
     }
 }
 
-fn batch_key(batch: &[u8], at: usize) -> Key
+// What the row at `at` of the batch is known and ordered by.
+pub(crate) fn batch_key(batch: &[u8], at: usize) -> Key
     requires { ⌜ isRead (readRow (now batch) at) ≡ true ⌝ }
     ensures { λ r. ⌜ KeyOf (batchRowAt (now (batch .entry)) at) r ⌝ }
 {

@@ -25,9 +25,8 @@ ghost use Rattle.clock.specs.Vector.{sound, entries};
 ghost use Rattle.error.specs.Answer.{got};
 ghost use Rattle.row.specs.Reading.{BatchRow};
 ghost use Rattle.row.specs.Slots.{slotAt, slotOk, slotsAt};
-ghost use Rattle.merging.specs.Batch.{readRows};
-ghost use Rattle.working.specs.Refs.{isRead};
-ghost use Rattle.working.specs.Promises.{Working, Unexpired, AdmitsAll, Drains};
+ghost use Rattle.merging.specs.Batch.{readRows, StartsAt};
+ghost use Rattle.working.specs.Promises.{Working, Unexpired, Begun, AdmitsAll, Drains};
 ghost use Rattle.working.specs.Ticks.{ticks, Clocked};
 ghost use Rattle.working.specs.Keys.{Keyed};
 
@@ -58,20 +57,20 @@ fn admit_by(
     scratch: &mut [u8],
     keys: &mut [u64],
     n: usize,
-    first: usize,
+    starts: &[u64],
     rows: usize,
     authors: &[u64],
     numbers: &[u64],
     count: usize,
 ) -> Admitting
-    requires { ⌜ Working (now held) (now batch) (now scratch) n × (isRead (readRows (now batch) rows first) ≡ true) × (n ≤ 64) × (rows ≤ 64) × (16 * (n + rows) ≤ length (now scratch)) × Clocked (now authors) (now numbers) count × Keyed (now held) (now batch) (now scratch) (now keys) n × (5 * (n + rows) ≤ length (now keys)) ⌝ }
-    ensures { λ r. ⌜ ((time : ℕ) (bs : List BatchRow) (end : ℕ) → readRows (now (batch .entry)) rows first ≡ got bs end → AdmitsAll (ticks (now (authors .entry)) (now (numbers .entry)) count) (now (held .entry)) (now (batch .entry)) time (now (scratch .entry)) (now (scratch .exit)) n bs r) ⌝ }
+    requires { ⌜ Working (now held) (now batch) (now scratch) n × Begun (now batch) (now starts) rows × (n ≤ 64) × (rows ≤ 64) × (16 * (n + rows) ≤ length (now scratch)) × Clocked (now authors) (now numbers) count × Keyed (now held) (now batch) (now scratch) (now keys) n × (5 * (n + rows) ≤ length (now keys)) ⌝ }
+    ensures { λ r. ⌜ ((time first : ℕ) (bs : List BatchRow) (end : ℕ) → StartsAt (now (batch .entry)) (now (starts .entry)) first rows → readRows (now (batch .entry)) rows first ≡ got bs end → AdmitsAll (ticks (now (authors .entry)) (now (numbers .entry)) count) (now (held .entry)) (now (batch .entry)) time (now (scratch .entry)) (now (scratch .exit)) n bs r) ⌝ }
 {
     let mut left = n;
     let mut duplicates: usize = 0;
-    let mut at = first;
     let mut i: usize = 0;
     while i < rows {
+        let at = starts[i] as usize;
         let answer = admit_one(
             held,
             batch,
@@ -84,9 +83,8 @@ fn admit_by(
             count,
         );
         match answer {
-            Admit::Duplicate(next) => {
+            Admit::Duplicate => {
                 duplicates += 1;
-                at = next;
                 i += 1;
                 continue;
             }
@@ -96,9 +94,8 @@ fn admit_by(
                     seq: seq,
                 });
             }
-            Admit::Entered(after) => {
+            Admit::Entered => {
                 left += 1;
-                at = after;
                 i += 1;
                 continue;
             }
@@ -110,18 +107,18 @@ fn admit_by(
     }
 }
 
-// Step 2: so many rows of the batch, from `first` on, each a duplicate, a conflict or one more working row.
+// Step 2: so many rows of the batch, each at its place in `starts`, a duplicate, a conflict or one more working row.
 pub fn admit_all(
     held: &[u8],
     batch: &[u8],
     head: &[u8],
     scratch: &mut [u8],
     n: usize,
-    first: usize,
+    starts: &[u64],
     rows: usize,
 ) -> Admitting
-    requires { ⌜ Working (now held) (now batch) (now scratch) n × (isRead (readRows (now batch) rows first) ≡ true) × (n ≤ 64) × (rows ≤ 64) × (16 * (n + rows) ≤ length (now scratch)) × (568 ≤ length (now head)) × (sound (clockAt (now head) 48) ≡ true) ⌝ }
-    ensures { λ r. ⌜ ((time : ℕ) (bs : List BatchRow) (end : ℕ) → readRows (now (batch .entry)) rows first ≡ got bs end → AdmitsAll (entries (clockAt (now (head .entry)) 48)) (now (held .entry)) (now (batch .entry)) time (now (scratch .entry)) (now (scratch .exit)) n bs r) ⌝ }
+    requires { ⌜ Working (now held) (now batch) (now scratch) n × Begun (now batch) (now starts) rows × (n ≤ 64) × (rows ≤ 64) × (16 * (n + rows) ≤ length (now scratch)) × (568 ≤ length (now head)) × (sound (clockAt (now head) 48) ≡ true) ⌝ }
+    ensures { λ r. ⌜ ((time first : ℕ) (bs : List BatchRow) (end : ℕ) → StartsAt (now (batch .entry)) (now (starts .entry)) first rows → readRows (now (batch .entry)) rows first ≡ got bs end → AdmitsAll (entries (clockAt (now (head .entry)) 48)) (now (held .entry)) (now (batch .entry)) time (now (scratch .entry)) (now (scratch .exit)) n bs r) ⌝ }
 {
     let mut authors = [0u64; 32];
     let mut numbers = [0u64; 32];
@@ -134,7 +131,7 @@ pub fn admit_all(
         scratch,
         &mut keys,
         n,
-        first,
+        starts,
         rows,
         &authors,
         &numbers,

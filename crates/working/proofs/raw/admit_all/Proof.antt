@@ -28,13 +28,13 @@ slice-aggregate-admit-by-3 : tie.Need-slice-aggregate-admit-by-3
 slice-aggregate-admit-by-3 c = search needs
 
 admit-by-requires : tie.Need-admit-by-requires
-admit-by-requires c κs = (c .before .before .before .before .before .before .before .before .before .before .before .before .before .before .before .before .before .pre .0, c .before .before .before .before .before .before .before .before .before .before .before .before .before .before .before .before .before .pre .1, c .before .before .before .before .before .before .before .before .before .before .before .before .before .before .before .before .before .pre .2, c .before .before .before .before .before .before .before .before .before .before .before .before .before .before .before .before .before .pre .3, c .before .before .before .before .before .before .before .before .before .before .before .before .before .before .before .before .before .pre .4, c .before .before .before .before .before .before .before .before .before .before .start-clock .ensures .1 .0, c .before .before .before .before .before .load-keys .ensures, search needs)
+admit-by-requires c κs = (c .before .before .before .before .before .before .before .before .before .before .before .before .before .before .before .before .before .before .pre .0, c .before .before .before .before .before .before .before .before .before .before .before .before .before .before .before .before .before .before .pre .1, c .before .before .before .before .before .before .before .before .before .before .before .before .before .before .before .before .before .before .pre .2, c .before .before .before .before .before .before .before .before .before .before .before .before .before .before .before .before .before .before .pre .3, c .before .before .before .before .before .before .before .before .before .before .before .before .before .before .before .before .before .before .pre .4, c .before .before .before .before .before .before .before .before .before .before .start-clock .ensures .1 .0, c .before .before .before .before .before .load-keys .ensures, search needs)
 
 same-length : tie.Need-same-length
 same-length c = search needs
 
 returns : tie.Need-returns
-returns c = λ time bs end e. admits-by (c .before .before .before .before .before .before .before .before .before .before .before .before .before .before .start-clock .ensures .0) (c .before .before .before .admit-by .ensures time bs end e)
+returns c = λ time first bs end st e. admits-by (c .before .before .before .before .before .before .before .before .before .before .before .before .before .before .start-clock .ensures .0) (c .before .before .before .admit-by .ensures time first bs end st e)
 
 pub admit-all-spec : {M : Type 1} → statement M
 admit-all-spec =

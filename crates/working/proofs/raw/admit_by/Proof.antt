@@ -2,72 +2,78 @@ use borrow.Author.Needs.{needs}
 use Prim.Native.Nat.{_-_}
 use native.Mathlib.Omega.{arith}
 use Rattle.working.specs.Ticks.{ticks}
-use Rattle.working.proofs.Batches.{Entering, entering-start, entering-end, needs-one, entering-duplicate, entering-entered, entering-conflict, answered}
+use Rattle.working.proofs.Batches.{Enters, enters-start, enters-end, begun, begun-needs, enters-duplicate, enters-entered, enters-conflict, answered}
 use Rattle.working.proofs.raw.admit_by.Statement.{statement}
 use Rattle.working.proofs.raw.admit_by.Tie as tie
 
 abbrev Inv-loop : tie.InvT-loop
-Inv-loop held batch scratch₀ keys₀ n first rows authors numbers count left₀ duplicates₀ at₀ i₀ scratch keys left duplicates at i = Entering (ticks authors numbers count) held batch scratch₀ keys₀ n first rows scratch keys left duplicates at i
+Inv-loop held batch scratch₀ keys₀ n starts rows authors numbers count left₀ duplicates₀ i₀ scratch keys left duplicates i = Enters (ticks authors numbers count) held batch starts scratch₀ keys₀ n rows scratch keys left duplicates i
 
 abbrev μ-loop : tie.MeasureT-loop
-μ-loop held batch scratch₀ keys₀ n first rows authors numbers count left₀ duplicates₀ at₀ i₀ scratch keys left duplicates at i = rows - i
+μ-loop held batch scratch₀ keys₀ n starts rows authors numbers count left₀ duplicates₀ i₀ scratch keys left duplicates i = rows - i
 
 loop-holds : tie.Need-loop-holds Inv-loop μ-loop
-loop-holds c = entering-start _ _ _ _ _ _ _ _ (c .before .before .before .before .before .before .pre .0) (c .before .before .before .before .before .before .pre .1) (c .before .before .before .before .before .before .pre .2) (c .before .before .before .before .before .before .pre .3) (c .before .before .before .before .before .before .pre .4) (c .before .before .before .before .before .before .pre .6) (c .before .before .before .before .before .before .pre .7)
+loop-holds c = enters-start _ _ _ _ _ _ _ _ (c .before .before .before .before .before .before .before .pre .0) (c .before .before .before .before .before .before .before .pre .2) (c .before .before .before .before .before .before .before .pre .3) (c .before .before .before .before .before .before .before .pre .4) (c .before .before .before .before .before .before .before .pre .6) (c .before .before .before .before .before .before .before .pre .7)
+
+mul-at : tie.Need-mul-at Inv-loop μ-loop
+mul-at c = omega (arith, c .before .before .before .before .before .before .before .before .before .pre .3, c .loop-test .taken)
+
+shared-slice-read-at : tie.Need-shared-slice-read-at Inv-loop μ-loop
+shared-slice-read-at c = omega (arith, c .before .before .before .before .before .before .before .before .before .before .pre .1 .room, c .before .loop-test .taken)
 
 admit-one-requires : tie.Need-admit-one-requires Inv-loop μ-loop
-admit-one-requires c κs = (needs-one (c .before .before .before .loop .inv) (c .before .before .before .before .before .before .before .before .before .before .pre .1) (c .before .before .loop-test .taken) .0, needs-one (c .before .before .before .loop .inv) (c .before .before .before .before .before .before .before .before .before .before .pre .1) (c .before .before .loop-test .taken) .1, c .before .before .before .before .before .before .before .before .before .before .pre .5, needs-one (c .before .before .before .loop .inv) (c .before .before .before .before .before .before .before .before .before .before .pre .1) (c .before .before .loop-test .taken) .2, c .before .before .before .loop .inv .keyed, needs-one (c .before .before .before .loop .inv) (c .before .before .before .before .before .before .before .before .before .before .pre .1) (c .before .before .loop-test .taken) .3)
+admit-one-requires c κs = (begun-needs (c .before .before .before .before .loop .inv) (c .before .before .before .loop-test .taken) (c .before .before .before .before .before .before .before .before .before .before .before .before .pre .1) .0, begun-needs (c .before .before .before .before .loop .inv) (c .before .before .before .loop-test .taken) (c .before .before .before .before .before .before .before .before .before .before .before .before .pre .1) .1, c .before .before .before .before .before .before .before .before .before .before .before .before .pre .5, begun-needs (c .before .before .before .before .loop .inv) (c .before .before .before .loop-test .taken) (c .before .before .before .before .before .before .before .before .before .before .before .before .pre .1) .2, begun (c .before .before .before .before .loop .inv) (c .before .before .before .before .before .before .before .before .before .before .before .before .pre .1) .keyed, begun-needs (c .before .before .before .before .loop .inv) (c .before .before .before .loop-test .taken) (c .before .before .before .before .before .before .before .before .before .before .before .before .pre .1) .3)
 
-enum-known-answer : tie.Need-enum-known-answer Inv-loop μ-loop
-enum-known-answer c = search needs
+enum-told : tie.Need-enum-told Inv-loop μ-loop
+enum-told c = search needs
 
 add-duplicates : tie.Need-add-duplicates Inv-loop μ-loop
-add-duplicates c = omega (arith, c .before .before .before .before .before .before .before .before .before .before .before .loop .inv .total, c .before .before .before .before .before .before .before .before .before .before .before .loop .inv .turn, c .before .before .before .before .before .before .before .before .before .before .before .loop .inv .few, c .before .before .before .before .before .before .before .before .before .before .before .loop .inv .rows-few)
+add-duplicates c = omega (arith, begun (c .before .before .before .before .before .before .before .before .before .before .before .loop .inv) (c .before .before .before .before .before .before .before .before .before .before .before .before .before .before .before .before .before .before .before .pre .1) .total, begun (c .before .before .before .before .before .before .before .before .before .before .before .loop .inv) (c .before .before .before .before .before .before .before .before .before .before .before .before .before .before .before .before .before .before .before .pre .1) .turn, begun (c .before .before .before .before .before .before .before .before .before .before .before .loop .inv) (c .before .before .before .before .before .before .before .before .before .before .before .before .before .before .before .before .before .before .before .pre .1) .few, begun (c .before .before .before .before .before .before .before .before .before .before .before .loop .inv) (c .before .before .before .before .before .before .before .before .before .before .before .before .before .before .before .before .before .before .before .pre .1) .rows-few)
 
 add-i : tie.Need-add-i Inv-loop μ-loop
-add-i c = omega (arith, c .before .before .before .before .before .before .before .before .before .before .before .loop .inv .turn, c .before .before .before .before .before .before .before .before .before .before .before .loop .inv .rows-few)
+add-i c = omega (arith, c .before .before .before .before .before .before .before .before .before .before .loop-test .taken, c .before .before .before .before .before .before .before .before .before .before .before .before .before .before .before .before .before .before .before .pre .3)
 
 loop-less : tie.Need-loop-less Inv-loop μ-loop
 loop-less c = omega (arith, c .before .before .before .before .before .before .before .before .before .before .loop-test .taken)
 
 loop-again : tie.Need-loop-again Inv-loop μ-loop
-loop-again c = entering-duplicate (c .before .before .before .before .before .before .before .before .before .before .before .loop .inv) (c .before .before .before .before .before .before .before .before .before .before .before .before .before .before .before .before .before .before .pre .1) (c .before .before .before .before .before .before .before .before .before .before .loop-test .taken) _ _ _ (search needs) (answered (c .before .answer .given .1) (c .before .before .before .before .before .before .before .admit-one .ensures))
+loop-again c = enters-duplicate (c .before .before .before .before .before .before .before .before .before .before .before .loop .inv) (c .before .before .before .before .before .before .before .before .before .before .loop-test .taken) _ _ (search needs) (answered (c .enum-told .given .1) (c .before .before .before .before .before .before .admit-one .ensures))
 
-enum-known-answer-2 : tie.Need-enum-known-answer-2 Inv-loop μ-loop
-enum-known-answer-2 c = search needs
+enum-known-answer : tie.Need-enum-known-answer Inv-loop μ-loop
+enum-known-answer c = search needs
 
 same-length : tie.Need-same-length Inv-loop μ-loop
-same-length c = search needs
+same-length c = search (needs, begun (c .before .before .before .before .before .before .before .before .before .before .before .before .loop .inv) (c .before .before .before .before .before .before .before .before .before .before .before .before .before .before .before .before .before .before .before .before .pre .1) .same)
 
 same-length-2 : tie.Need-same-length-2 Inv-loop μ-loop
-same-length-2 c = search needs
+same-length-2 c = search (needs, begun (c .before .before .before .before .before .before .before .before .before .before .before .before .loop .inv) (c .before .before .before .before .before .before .before .before .before .before .before .before .before .before .before .before .before .before .before .before .pre .1) .same-keys)
 
 returns : tie.Need-returns Inv-loop μ-loop
-returns c = entering-conflict (c .before .before .before .before .before .before .before .before .before .before .before .loop .inv) (c .before .before .before .before .before .before .before .before .before .before .before .before .before .before .before .before .before .before .pre .1) (c .before .before .before .before .before .before .before .before .before .before .loop-test .taken) _ _ _ _ (answered (c .before .answer2 .given .1) (c .before .before .before .before .before .before .before .admit-one .ensures))
+returns c = enters-conflict (c .before .before .before .before .before .before .before .before .before .before .before .before .loop .inv) (c .before .before .before .before .before .before .before .before .before .before .before .loop-test .taken) _ _ _ _ (answered (c .before .answer .given .1) (c .before .before .before .before .before .before .before .admit-one .ensures))
 
-enum-known-answer-3 : tie.Need-enum-known-answer-3 Inv-loop μ-loop
-enum-known-answer-3 c = search needs
+enum-told-2 : tie.Need-enum-told-2 Inv-loop μ-loop
+enum-told-2 c = search needs
 
 add-left : tie.Need-add-left Inv-loop μ-loop
-add-left c = omega (arith, c .before .before .before .before .before .before .before .before .before .before .before .loop .inv .total, c .before .before .before .before .before .before .before .before .before .before .before .loop .inv .turn, c .before .before .before .before .before .before .before .before .before .before .before .loop .inv .few, c .before .before .before .before .before .before .before .before .before .before .before .loop .inv .rows-few)
+add-left c = omega (arith, begun (c .before .before .before .before .before .before .before .before .before .before .before .loop .inv) (c .before .before .before .before .before .before .before .before .before .before .before .before .before .before .before .before .before .before .before .pre .1) .total, begun (c .before .before .before .before .before .before .before .before .before .before .before .loop .inv) (c .before .before .before .before .before .before .before .before .before .before .before .before .before .before .before .before .before .before .before .pre .1) .turn, begun (c .before .before .before .before .before .before .before .before .before .before .before .loop .inv) (c .before .before .before .before .before .before .before .before .before .before .before .before .before .before .before .before .before .before .before .pre .1) .few, begun (c .before .before .before .before .before .before .before .before .before .before .before .loop .inv) (c .before .before .before .before .before .before .before .before .before .before .before .before .before .before .before .before .before .before .before .pre .1) .rows-few)
 
 add-i-2 : tie.Need-add-i-2 Inv-loop μ-loop
-add-i-2 c = omega (arith, c .before .before .before .before .before .before .before .before .before .before .before .loop .inv .turn, c .before .before .before .before .before .before .before .before .before .before .before .loop .inv .rows-few)
+add-i-2 c = omega (arith, c .before .before .before .before .before .before .before .before .before .before .loop-test .taken, c .before .before .before .before .before .before .before .before .before .before .before .before .before .before .before .before .before .before .before .pre .3)
 
 loop-less-2 : tie.Need-loop-less-2 Inv-loop μ-loop
 loop-less-2 c = omega (arith, c .before .before .before .before .before .before .before .before .before .before .loop-test .taken)
 
 loop-again-2 : tie.Need-loop-again-2 Inv-loop μ-loop
-loop-again-2 c = entering-entered (c .before .before .before .before .before .before .before .before .before .before .before .loop .inv) (c .before .before .before .before .before .before .before .before .before .before .before .before .before .before .before .before .before .before .pre .1) (c .before .before .before .before .before .before .before .before .before .before .loop-test .taken) _ _ _ (search needs) (search needs) (answered (c .before .answer3 .given .1) (c .before .before .before .before .before .before .before .admit-one .ensures))
+loop-again-2 c = enters-entered (c .before .before .before .before .before .before .before .before .before .before .before .loop .inv) (c .before .before .before .before .before .before .before .before .before .before .loop-test .taken) _ _ (search needs) (search needs) (answered (c .enum-told2 .given .1) (c .before .before .before .before .before .before .admit-one .ensures))
 
 same-length-3 : tie.Need-same-length-3 Inv-loop μ-loop
-same-length-3 c = c .before .loop .inv .same
+same-length-3 c = begun (c .before .loop .inv) (c .before .before .before .before .before .before .before .before .before .pre .1) .same
 
 same-length-4 : tie.Need-same-length-4 Inv-loop μ-loop
-same-length-4 c = c .before .loop .inv .same-keys
+same-length-4 c = begun (c .before .loop .inv) (c .before .before .before .before .before .before .before .before .before .pre .1) .same-keys
 
 returns-2 : tie.Need-returns-2 Inv-loop μ-loop
-returns-2 c = entering-end (c .before .loop .inv) (c .before .before .before .before .before .before .before .before .pre .1) (omega arith)
+returns-2 c = enters-end (c .before .loop .inv) (omega arith)
 
 pub admit-by-spec : {M : Type 1} → statement M
 admit-by-spec =
@@ -76,17 +82,19 @@ admit-by-spec =
     Inv-loop
     μ-loop
     loop-holds
+    mul-at
+    shared-slice-read-at
     admit-one-requires
-    enum-known-answer
+    enum-told
     add-duplicates
     add-i
     loop-less
     loop-again
-    enum-known-answer-2
+    enum-known-answer
     same-length
     same-length-2
     returns
-    enum-known-answer-3
+    enum-told-2
     add-left
     add-i-2
     loop-less-2

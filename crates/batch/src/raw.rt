@@ -1,4 +1,5 @@
-// The rows of a batch, read in one pass: 3 and 4 by the first fault in reading; each row's validation beside it.
+// No call of document 01: these require room for where the rows start, and serve the merger, which lends it. The rows of
+// a batch, read in one pass: 3 and 4 by the first fault in reading; each row's validation beside it.
 use crate::BatchRead;
 use crate::MergeLimits;
 use crate::limits::validated;
@@ -10,22 +11,9 @@ use row::Reading;
 use row::reader::read_row;
 ghost use mathlib.Core.Path.{_≡_};
 ghost use Prim.Native.Nat.{_≤_};
-ghost use Rattle.merging.specs.Batch.{limitsOk};
+ghost use lib.ListN.{length};
 ghost use Rattle.batch.specs.Views.{limitsOf};
-ghost use Rattle.batch.specs.Promises.{ReadsRows, ReadsBatch};
-
-// Whether the settings are within the closing list.
-pub fn are_within(limits: MergeLimits) -> bool
-    ensures { λ r. ⌜ r ≡ limitsOk (limitsOf limits) ⌝ }
-{
-    if limits.max_pending > 64 {
-        return false;
-    }
-    if limits.max_deps > 16 {
-        return false;
-    }
-    limits.max_payload <= 256
-}
+ghost use Rattle.batch.specs.Promises.{ReadsRows, ReadsBatch, RowsStart};
 
 // A batch that is refused.
 fn no_batch(r: Refusal) -> BatchRead
@@ -38,10 +26,18 @@ fn no_batch(r: Refusal) -> BatchRead
     }
 }
 
-// So many rows from `first` on, and then nothing.
-fn read_rows(s: &[u8], first: usize, rows: usize, limits: MergeLimits, time: u64) -> BatchRead
-    requires { ⌜ rows ≤ 64 ⌝ }
-    ensures { λ r. ⌜ ReadsRows (now (s .entry)) first rows (limitsOf limits) time r ⌝ }
+// So many rows from `first` on, and then nothing; where each starts.
+fn read_rows(
+    s: &[u8],
+    first: usize,
+    rows: usize,
+    limits: MergeLimits,
+    time: u64,
+    starts: &mut [u64],
+) -> BatchRead
+    requires { ⌜ (rows ≤ 64) × (64 ≤ length (now starts)) ⌝ }
+    ensures reads { λ r. ⌜ ReadsRows (now (s .entry)) first rows (limitsOf limits) time r ⌝ }
+    ensures start { λ r. ⌜ RowsStart (r .reading) (now (s .entry)) (now (starts .exit)) rows ⌝ }
 {
     let mut valid = Outcome::Done;
     let mut at = first;
@@ -53,6 +49,7 @@ fn read_rows(s: &[u8], first: usize, rows: usize, limits: MergeLimits, time: u64
             Reading::Refused(r) => return no_batch(r),
             Reading::Read(next) => {
                 valid = validated(valid, limits, time, row.op, row.verdict);
+                starts[i] = at as u64;
                 at = next;
                 i += 1;
                 continue;
@@ -69,9 +66,11 @@ fn read_rows(s: &[u8], first: usize, rows: usize, limits: MergeLimits, time: u64
     }
 }
 
-// A count of at most 64, as many rows, and then nothing.
-pub fn read_batch(s: &[u8], limits: MergeLimits, time: u64) -> BatchRead
-    ensures { λ r. ⌜ ReadsBatch (now (s .entry)) (limitsOf limits) time r ⌝ }
+// A count of at most 64, as many rows, and then nothing; where each row starts.
+pub fn read_batch(s: &[u8], limits: MergeLimits, time: u64, starts: &mut [u64]) -> BatchRead
+    requires { ⌜ 64 ≤ length (now starts) ⌝ }
+    ensures reads { λ r. ⌜ ReadsBatch (now (s .entry)) (limitsOf limits) time r ⌝ }
+    ensures start { λ r. ⌜ RowsStart (r .reading) (now (s .entry)) (now (starts .exit)) (r .rows) ⌝ }
 {
     let NumberRead::Value {
         value: count,
@@ -83,5 +82,5 @@ pub fn read_batch(s: &[u8], limits: MergeLimits, time: u64) -> BatchRead
     if count > 64 {
         return no_batch(Refusal::OverCapacity);
     }
-    read_rows(s, first, count as usize, limits, time)
+    read_rows(s, first, count as usize, limits, time, starts)
 }

@@ -1,7 +1,7 @@
 use Rattle.batch.specs.Views.{limitsOf}
 use Rattle.batch.proofs.Validating.{many-held, many-deps, by-payload}
-use Rattle.batch.proofs.reading.are_within.Statement.{statement}
-use Rattle.batch.proofs.reading.are_within.Tie as tie
+use Rattle.batch.proofs.settings.are_within.Statement.{statement}
+use Rattle.batch.proofs.settings.are_within.Tie as tie
 
 returns : tie.Need-returns
 unfolding limitsOf
