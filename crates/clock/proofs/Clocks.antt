@@ -10,11 +10,11 @@ use lib.ListN.{length, take, drop, getD, replicate, length-drop, take-append-dro
 use lib.Seq.{take-at, drop-at, getD-take, length-take-le}
 use borrow.Author.Tests.{eqb-true, leb-true, le-leb}
 use Rattle.words.specs.Areas.{pad, Zero}
+use Rattle.words.proofs.Both.{and-left, and-right, and-both}
 use Rattle.clock.specs.declared.vector.VectorClock.{VectorClock}
 use Rattle.clock.specs.Entries.{rising}
 use Rattle.clock.specs.Vector.{pairs, authorsOf, numbersOf, zeros, entries, clockOf, sound}
 use Rattle.clock.specs.Rows.{ascending}
-use Rattle.clock.proofs.Rising.{and-left, and-right, and-both}
 
 -- pairs of rows
 pub authors-pairs : (ks ns : List ℕ) → length ks ≡ length ns → authorsOf (pairs ks ns) ≡ ks

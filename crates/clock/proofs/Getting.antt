@@ -10,9 +10,10 @@ use lib.ListN.{length}
 use borrow.Author.Tests.{eqb-true, eqb-false, ltb-true, ltb-false, leb-true, le-leb, ne-eqb, eq-eqb}
 use Rattle.words.specs.Choice.{pick}
 use Rattle.words.proofs.Words.{test}
+use Rattle.words.proofs.Both.{and-left, and-right, and-both}
 use Rattle.clock.specs.Entries.{get, put, putBy, observe, increment, merge, dominates}
 use Rattle.clock.specs.FidgeMattern.{_⊑_}
-use Rattle.clock.proofs.Rising.{Rises, none, more, and-left, and-right, and-both}
+use Rattle.clock.proofs.Rising.{Rises, none, more}
 
 -- an author below the first is absent
 pub absent : {lo : ℕ} {es : List (ℕ × ℕ)} (x : ℕ) → x < lo → Rises lo es → get es x ≡ 0

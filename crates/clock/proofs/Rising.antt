@@ -8,18 +8,8 @@ use native.Mathlib.Omega.{arith}
 use lib.Dec.{eqb, ltb, leb}
 use borrow.Author.Tests.{eqb-true, eqb-false, ltb-true, ltb-false, leb-true, le-leb}
 use Rattle.words.proofs.Words.{test}
+use Rattle.words.proofs.Both.{and-left, and-right, and-both}
 use Rattle.clock.specs.Entries.{rising, get, put, putBy, observe, increment, merge}
-
-pub and-left : (a b : Bool) → a && b ≡ true → a ≡ true
-and-left true b h = refl
-and-left false b h = h
-
-pub and-right : (a b : Bool) → a && b ≡ true → b ≡ true
-and-right true b h = h
-and-right false b h = absurd (let z : _≡_ {A = ℕ} 0 1 = cc in omega arith)
-
-pub and-both : (a b : Bool) → a ≡ true → b ≡ true → a && b ≡ true
-and-both a b h k = rw (h, k)
 
 -- rising, as data
 pub data Rises : ℕ → List (ℕ × ℕ) → Type 0 where

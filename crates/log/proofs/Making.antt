@@ -13,6 +13,7 @@ use borrow.Rule.Slice.PartMut.{putMid}
 use Rattle.words.specs.Be.{Bytes}
 use Rattle.words.specs.Areas.{pad, putAt}
 use Rattle.words.proofs.Words.{test}
+use Rattle.words.proofs.Both.{and-left, and-right}
 use Rattle.error.specs.declared.Refusal.{Refusal}
 use Rattle.error.specs.declared.Refusal.the-variants.{UnsoundStore, ShortArea, LogFull, AuthorsFull}
 use Rattle.error.specs.Answer.{Answer, done, refused, andThen, unless, Unit, unit}
@@ -21,7 +22,7 @@ use Rattle.clock.specs.Entries.{rising}
 use Rattle.clock.specs.Vector.{authorsOf, entries, clockOf, sound}
 use Rattle.clock.specs.Area.{clockAt}
 use Rattle.clock.proofs.Clocks.{entries-of, sound-of}
-use Rattle.clock.proofs.Rising.{none, and-left, and-right}
+use Rattle.clock.proofs.Rising.{none}
 use Rattle.row.specs.Slots.{encodeSlots}
 use Rattle.log.specs.Store.{Store, clockOk}
 use Rattle.log.specs.Areas.{Areas, areas, capacity, logBytes, heldBytes, headBytes, writeStore}

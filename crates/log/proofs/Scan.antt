@@ -14,7 +14,7 @@ use Rattle.clock.specs.Entries.{observe}
 use Rattle.clock.proofs.Getting.{observe-longer}
 use Rattle.row.specs.Rows.{Row, logged}
 use Rattle.row.specs.Slots.{slotAt, slotsAt, decodeHeld, slotOk, loggedSlotOk}
-use Rattle.row.proofs.Truths.{and-left, and-right, and-both}
+use Rattle.words.proofs.Both.{and-left, and-right, and-both}
 use Rattle.row.proofs.Slot.{logged-slot, logged-decode, slot-logged}
 use Rattle.log.specs.Store.{Mark, derive, all, notAbove, neverFalls, coveredBy}
 use Rattle.log.specs.Areas.{rowsOf, loggedRows}

@@ -8,10 +8,10 @@ use lib.Dec.{leb}
 use lib.ListN.{length}
 use borrow.Author.Tests.{leb-true}
 use Rattle.words.specs.Be.{get64}
+use Rattle.words.proofs.Both.{and-left, and-right}
 use Rattle.error.specs.declared.Refusal.{Refusal}
 use Rattle.error.specs.declared.Refusal.the-variants.{OverCapacity, ShortArea}
 use Rattle.error.specs.Answer.{Answer, done, refused, Unit, unit}
-use Rattle.clock.proofs.Rising.{and-left, and-right}
 use Rattle.log.specs.Store.{Store}
 use Rattle.log.specs.Areas.{Areas, capacity, readStore, decodeStore}
 use Rattle.log.proofs.Asked.{Passed}

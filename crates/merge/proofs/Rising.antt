@@ -8,7 +8,7 @@ use native.Mathlib.Omega.{arith}
 use lib.ListN.{length, take, getD}
 use Rattle.words.proofs.Words.{lt-or-le}
 use Rattle.words.specs.Be.{get64}
-use Rattle.clock.proofs.Rising.{and-left, and-right}
+use Rattle.words.proofs.Both.{and-left, and-right}
 use Rattle.row.specs.Rows.{Row, HeldRow, workLess}
 use Rattle.row.specs.Slots.{slotAt, decodeHeld, slotsAt}
 use Rattle.log.specs.Store.{belowNext, heldRise}

@@ -25,7 +25,6 @@ use Rattle.log.specs.Store.{Floor, none, floor, Store}
 use Rattle.log.specs.Areas.{Areas, capacity, readStore, writeStore, headBytes, encodeMarks, floorWords, stampWords, stampAt, floorBy, rowsOf, decodeStore}
 use Rattle.log.specs.Calls.{leave, insert, insertAll}
 use Rattle.log.specs.declared.StampAnswer.{StampAnswer}
-use Rattle.log.specs.declared.StampAnswer.the-variants as stamp
 use Rattle.log.specs.Views.{checkCall, stampOf, Leaves}
 use Rattle.log.specs.Steps.{Stored}
 use Rattle.log.proofs.Store.{write-read}
@@ -36,7 +35,9 @@ use Rattle.log.proofs.Asked.{Passed, stopped}
 use Rattle.log.proofs.Restoring.{all-held-same}
 use Rattle.merging.specs.Merging.{Drained, commit}
 use Rattle.merging.specs.Calls.{roomFor, raiseFloor, withFloor, setFloorCall}
-use Rattle.merge.specs.Floors.{above, floorOf}
+use Rattle.commit.specs.Promises.{floorOf}
+use Rattle.commit.proofs.Lines.{floor-told}
+use Rattle.merge.specs.Floors.{above}
 
 -- a part replaced by one of its length
 pub put-mid : (p q r s : List ℕ) (n : ℕ) → length p ≡ n → length q ≡ length r → putAt (p ++ (q ++ s)) n r ≡ p ++ (r ++ s)
@@ -185,13 +186,6 @@ module _ (a : Areas) (s : Store) (e : readStore a ≡ done s) (t : Timestamp) wh
       })
 
 -- ---- what the code asks and writes
-
-floor-told : (r : StampAnswer) (f : Floor) → stampOf r ≡ done f → floorOf r ≡ f
-floor-told stamp.None f e = cc
-floor-told (stamp.Stamp t) f e = cc
-floor-told (stamp.Refused q) f e =
-    let z : _≡_ {A = ℕ} 0 1 = cc in
-    absurd (omega arith)
 
 module _ (f : Floor) (t : Timestamp) (head : List ℕ) (r : StampAnswer) (b : Bool) (e : stampOf r ≡ done f) (k : b ≡ above (floorOf r) t) where
   told : above f t ≡ b

@@ -7,6 +7,7 @@ use mathlib.Core.List.{List, [], _∷_, _++_, append-assoc, append-nil, List·Me
 use lib.Dec.{leb, eqb}
 use borrow.Author.Tests.{leb-true, leb-false, eqb-true, eq-eqb}
 use Rattle.words.specs.Choice.{pick}
+use Rattle.words.proofs.Both.{and-left, and-right, and-both}
 use Rattle.error.specs.Answer.{done}
 use Rattle.clock.specs.Entries.{get}
 use Rattle.row.specs.Rows.{Row, HeldRow}
@@ -19,7 +20,6 @@ use Rattle.merging.specs.Steps.{unless-done, then-done}
 use Rattle.clock.proofs.Lex.{clash}
 use Rattle.merging.proofs.Sorting.{place-cases}
 use Rattle.merging.proofs.Rows.{enter-place}
-use Rattle.clock.proofs.Rising.{and-left, and-right, and-both}
 
 -- no working row has this author and sequence
 abbrev pub Fresh : Row → List HeldRow → Type 0

@@ -9,7 +9,7 @@ use Rattle.clock.specs.declared.stamp.Timestamp.{Timestamp}
 use Rattle.row.specs.Rows.{Row}
 use Rattle.row.specs.Slots.{same}
 use Rattle.row.proofs.Truths as truths
-use Rattle.row.proofs.Truths.{and-left, and-right, and-both}
+use Rattle.words.proofs.Both.{and-left, and-right, and-both}
 use Rattle.log.specs.Store.{sameEntries}
 use Rattle.log.proofs.Rules as rules
 use Rattle.merging.specs.Merging.{sameStamp, sameContent}

@@ -13,7 +13,7 @@ use Rattle.row.specs.Rows.{Row, HeldRow}
 use Rattle.log.specs.Areas.{rowsOf}
 use Rattle.merging.specs.Merging.{depsMet, ready, Pick, nobody, found, past, pickBy, firstReady, Drained, Going, tryLog, next, drain}
 use Rattle.merging.specs.Offers.{Sorted}
-use Rattle.clock.proofs.Rising.{and-left, and-right, and-both}
+use Rattle.words.proofs.Both.{and-left, and-right, and-both}
 use Rattle.merging.proofs.Listing.{last-cases}
 
 -- ---- a list without one of its elements

@@ -11,10 +11,10 @@ use lib.ListN.{length}
 use borrow.Author.Tests.{eqb-true, leb-true, lt-ltb, not-true, not-false}
 use Rattle.words.specs.Choice.{pick}
 use Rattle.words.proofs.Words.{test}
+use Rattle.words.proofs.Both.{and-left, and-right, and-both}
 use Rattle.error.specs.Answer.{done, Unit}
 use Rattle.clock.specs.declared.stamp.Timestamp.{Timestamp}
 use Rattle.clock.specs.Order.{stampLess}
-use Rattle.clock.proofs.Rising.{and-left, and-right, and-both}
 use Rattle.row.specs.Rows.{Row, HeldRow, workLess, outcomeOk, rowOk, heldOk}
 use Rattle.row.specs.Reading.{BatchRow}
 use Rattle.log.specs.Store.{Floor, none, floor, Store, all, belowNext, heldRise, sameId, absentFrom, noTwice, stampOk, floorOk, rules}

@@ -6,7 +6,7 @@ use lib.Dec.{leb}
 use borrow.Author.Tests.{le-leb, lt-leb, leb-true}
 use Rattle.error.specs.declared.Refusal.the-variants.{UnsoundStore}
 use Rattle.clock.specs.Vector.{sound}
-use Rattle.row.proofs.Truths.{and-left, and-right}
+use Rattle.words.proofs.Both.{and-left, and-right}
 use Rattle.peer.specs.declared.Peer.{Peer}
 use Rattle.peer.specs.Peers.{peerSound, PeerCalled, kept, onSound}
 

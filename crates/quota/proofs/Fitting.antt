@@ -10,6 +10,7 @@ use lib.ListN.{length, take, drop, getD, set}
 use lib.Seq.{length-take-le, getD-take, drop-cons, drop-set-lt}
 use borrow.Author.Tests.{leb-true, le-leb, lt-leb, not-true, not-false}
 use Rattle.words.specs.Be.{get64}
+use Rattle.words.proofs.Both.{and-right, and-both}
 use Rattle.error.specs.declared.Refusal.{Refusal}
 use Rattle.error.specs.declared.Refusal.the-variants.{LogFull, AuthorsFull}
 use Rattle.error.specs.Answer.{done, refused, Unit, unit}
@@ -17,7 +18,7 @@ use Rattle.clock.specs.declared.vector.VectorClock.{VectorClock}
 use Rattle.clock.specs.Entries.{rising, observe}
 use Rattle.clock.specs.Vector.{Called, pairs, authorsOf, zeros, entries, clockOf, sound, grown}
 use Rattle.clock.proofs.Clocks.{entries-of, sound-of, sound-rising}
-use Rattle.clock.proofs.Rising.{rises-of, rising-observe, and-right, and-both}
+use Rattle.clock.proofs.Rising.{rises-of, rising-observe}
 use Rattle.clock.proofs.Getting.{observe-longer}
 use Rattle.clock.proofs.Growing.{grown-done, grown-refused}
 use Rattle.row.specs.Rows.{Row}

@@ -18,7 +18,7 @@ use Rattle.codec.proofs.Steps.{on, pass}
 use Rattle.row.specs.Rows.{Row, logged, rowOk, outcomeOk}
 use Rattle.row.specs.Wire.{headBytes, pairBytes, depsBytes, unsignedBytes, signedBytes, signedLen}
 use Rattle.row.specs.Reading.{unreadable, number, readHead, readPair, readPairs, readDeps, readPart, readClosing, batchRow, readRow}
-use Rattle.row.proofs.Truths.{and-both}
+use Rattle.words.proofs.Both.{and-both}
 use Rattle.row.proofs.Pairs.{DepsOk}
 use Rattle.row.proofs.Pairs.DepsOk.{none, more}
 use Rattle.row.proofs.Lengths.{length-signed}

@@ -2,7 +2,7 @@
 use mathlib.Core.Path.{_≡_, refl}
 use mathlib.Core.Bool.{true}
 use Rattle.row.specs.Rows.{Row, rowOk, heldOk, outcomeOk, logged}
-use Rattle.row.proofs.Truths.{and-left, and-both}
+use Rattle.words.proofs.Both.{and-left, and-both}
 use Rattle.row.proofs.Slot.{HeldGood, held-good, good-held}
 
 pub row-good : (r : Row) → rowOk r ≡ true → HeldGood (logged r)

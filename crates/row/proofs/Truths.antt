@@ -10,22 +10,9 @@ use Rattle.words.specs.Be.{Bytes}
 use Rattle.words.specs.Choice.{Tells}
 use Rattle.words.specs.Choice.Tells.{yes, no}
 use Rattle.words.proofs.Words.{test}
+use Rattle.words.proofs.Both.{and-left, and-right, and-both}
 use Rattle.row.specs.Rows.{byteList}
 use Rattle.row.specs.Slots.{same}
-
-pub and-left : (a b : Bool) → a && b ≡ true → a ≡ true
-and-left true b h = refl
-and-left false b h = h
-
-pub and-right : (a b : Bool) → a && b ≡ true → b ≡ true
-and-right true b h = h
-and-right false b h = absurd (let z : _≡_ {A = ℕ} 0 1 = cc in omega arith)
-
-pub and-both : (a b : Bool) → a ≡ true → b ≡ true → a && b ≡ true
-and-both a b h k = rw (h, k)
-
-pub and-false : (a b : Bool) → a ≡ false → a && b ≡ false
-and-false a b h = rw h
 
 -- ---- what a test tells
 pub tells-map : {P Q : Type 0} {b : Bool} → (P → Q) → (Q → P) → Tells P b → Tells Q b

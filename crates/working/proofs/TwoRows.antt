@@ -17,9 +17,10 @@ use Rattle.clock.specs.Rows.{putIn}
 use Rattle.clock.specs.Vector.{pairs, entries, sound}
 use Rattle.clock.proofs.Clocks.{sound-few, sound-rising}
 use Rattle.clock.proofs.Getting.{absent}
-use Rattle.clock.proofs.Rising.{Rises, more, rises-of, rising-put, and-left, and-right}
+use Rattle.clock.proofs.Rising.{Rises, more, rises-of, rising-put}
 use Rattle.clock.proofs.Lex.{clash}
 use Rattle.words.proofs.Words.{lt-or-le}
+use Rattle.words.proofs.Both.{and-left, and-right}
 use Rattle.clock.proofs.Stored.{length-column, column-at}
 use Rattle.working.specs.Columns.{insAt}
 use Rattle.working.specs.Ticks.{ticks, Clocked, Ascends, Parts, standsAt, Ticked}
