@@ -14,13 +14,12 @@ use Rattle.row.specs.Rows.{Row, HeldRow, logged, rowOk}
 use Rattle.row.specs.Slots.{encodeHeld, encodeSlots, decodeHeld, slotAt, slotOk, loggedSlotOk}
 use Rattle.row.proofs.Slot.{length-held, slot-held, slot-bytes, logged-slot, logged-decode}
 use Rattle.row.proofs.Ops.{in-area}
-use Rattle.row.proofs.SlotTable.{slots-append}
 use Rattle.log.specs.Store.{all, neverFalls}
 use Rattle.log.specs.Areas.{loggedRows}
 use Rattle.log.specs.Calls.{insertRow}
 use Rattle.log.specs.Steps.{before, slots, RowsAt, HasRows, Places, Open, Opens, Moves, Inserts}
 use Rattle.log.proofs.Rules.{held-row, logged-ok}
-use Rattle.log.proofs.Slotting.{blank, logged-append, length-rows, rows-ok, rows-row, rows-length}
+use Rattle.log.proofs.Slotting.{blank, slots-join, length-rows, rows-ok, rows-row, rows-length}
 use Rattle.log.proofs.Inserting.{
   all-insert,
   all-take,
@@ -38,10 +37,7 @@ use Rattle.log.proofs.Inserting.{
   before-back,
 }
 
--- ---- slots one after the other
-pub slots-join : (x y : List Row) → slots (x ++ y) ≡ slots x ++ slots y
-slots-join x y = ap encodeSlots (logged-append x y) ∙ slots-append (loggedRows x) (loggedRows y)
-
+-- ---- slots of the first rows, and of one
 slots-one : (r : Row) → slots (r ∷ []) ≡ encodeHeld (logged r)
 unfolding loggedRows encodeSlots
 slots-one r = append-nil (encodeHeld (logged r))

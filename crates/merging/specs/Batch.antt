@@ -1,6 +1,6 @@
 -- The batch and its validation, document 01, "The call". Assumes nothing.
-use mathlib.Core.Path.{_≡_}
 use Prim.Native.Nat.{ℕ, zero, suc, _+_, _-_, _^_, _<_}
+use mathlib.Core.Path.{_≡_}
 use mathlib.Core.Bool.{Bool, true, false, not, _&&_, _||_}
 use mathlib.Core.List.{List, [], _∷_}
 use lib.ListN.{length, getD}
@@ -35,7 +35,7 @@ readRows s (suc n) at =
     after (readRows s n at) (λ rows at.
     got (row ∷ rows) at))
 
--- the position past a row
+-- where rows lie, so that none need be read again to find the next; no sentence of document 01. The position past a row
 abbrev pub pastRow : Got BatchRow → ℕ
 pastRow (got row at) = at
 pastRow (bad r) = 0
