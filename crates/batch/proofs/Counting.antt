@@ -1,6 +1,6 @@
 -- The loop over the rows of a batch. Assumes nothing.
 use Prim.Native.Nat.{ℕ, suc, _+_, _-_, _≤_, _<_}
-use mathlib.Core.Path.{_≡_, refl, sym, _∙_, ap}
+use mathlib.Core.Path.{_≡_, refl, sym, subst, _∙_, ap}
 use mathlib.Core.List.{List, [], _∷_, _++_, append-assoc, append-nil}
 use native.Mathlib.Omega.{arith}
 use lib.ListN.{length, length-append}
@@ -15,7 +15,7 @@ use Rattle.row.specs.declared.RowRead.{RowRead}
 use Rattle.row.specs.declared.Reading.{Reading}
 use Rattle.row.specs.declared.Reading.the-variants.{Read, Refused}
 use Rattle.merging.specs.Batch.{Limits, whole, readRows, readBatch, validate, validateAll}
-use Rattle.batch.specs.Promises.{GoesOn, Brings, RowsBy, ReadsRows, BatchBy, ReadsBatch}
+use Rattle.batch.specs.Promises.{GoesOn, Brings, noBatch, RowsBy, ReadsRows, BatchBy, ReadsBatch}
 use Rattle.batch.specs.declared.BatchRead.{BatchRead}
 
 -- what is read behind the rows bs
@@ -119,19 +119,25 @@ module _ {s : List ℕ} {first rows : ℕ} {l : Limits} {time : ℕ} {valid : An
           }
 
 -- ---- the answers
+pub ended-as : {r : BatchRead} {k : Refusal} → r ≡ noBatch k → r .reading ≡ Refused k
+ended-as e = ap (λ (x : BatchRead). x .reading) e
+
+batch-refused : {s : List ℕ} {l : Limits} {time : ℕ} {r : BatchRead} {k : Refusal} → r ≡ noBatch k → readBatch s ≡ refused k → ReadsBatch s l time r
+batch-refused {s} {l} {time} {r} e h = record { is = subst (λ (x : Reading). BatchBy x s l time r) (sym (ended-as e)) (h, e) }
+
 module _ {s : List ℕ} {first n : ℕ} {l : Limits} {time : ℕ} where
-  pub rows-refused : {r : BatchRead} {k : Refusal} → r .reading ≡ Refused k → whole s (readRows s n first) ≡ refused k → ReadsRows s first n l time r
-  rows-refused {r} e h = record { is = rw e h }
+  pub rows-refused : {r : BatchRead} {k : Refusal} → r ≡ noBatch k → whole s (readRows s n first) ≡ refused k → ReadsRows s first n l time r
+  rows-refused {r} {k} e h = record { is = subst (λ (x : Reading). RowsBy x s first n l time r) (sym (ended-as e)) (h, e) }
 
 module _ (s : List ℕ) (l : Limits) (time : ℕ) where
-  pub no-count : {r : BatchRead} → number s 0 ≡ bad Unreadable → r .reading ≡ Refused Unreadable → ReadsBatch s l time r
+  pub no-count : {r : BatchRead} → number s 0 ≡ bad Unreadable → r ≡ noBatch Unreadable → ReadsBatch s l time r
   unfolding readBatch
-  no-count e h = record { is = rw h (rw e) }
+  no-count e h = batch-refused h (rw e)
 
   module _ {n first : ℕ} (e : number s 0 ≡ got n first) where
-    pub over-count : {r : BatchRead} → 64 < n → r .reading ≡ Refused OverCapacity → ReadsBatch s l time r
+    pub over-count : {r : BatchRead} → 64 < n → r ≡ noBatch OverCapacity → ReadsBatch s l time r
     unfolding readBatch
-    over-count m h = record { is = rw h (rw (e, lt-leb n 64 m)) }
+    over-count m h = batch-refused h (rw (e, lt-leb n 64 m))
 
     module _ (m : n ≤ 64) where
       batch-is : readBatch s ≡ whole s (readRows s n first)
@@ -140,7 +146,7 @@ module _ (s : List ℕ) (l : Limits) (time : ℕ) where
 
       by-rows : (r : BatchRead) (x : Reading) → RowsBy x s first n l time r → BatchBy x s l time r
       by-rows r (Read from) (f, k, b) = (rw (f, k) b, rw (f, k) batch-is)
-      by-rows r (Refused k) h = batch-is ∙ h
+      by-rows r (Refused k) (h, e) = (batch-is ∙ h, e)
 
       pub batch-by-rows : {r : BatchRead} → ReadsRows s first n l time r → ReadsBatch s l time r
       batch-by-rows {r} d = record { is = by-rows r (r .reading) (d .is) }

@@ -4,7 +4,9 @@ use mathlib.Core.Path.{_≡_}
 use mathlib.Core.List.{List}
 use lib.ListN.{length}
 use Rattle.error.specs.Answer.{Answer, done, refused, andThen, Unit, got}
+use Rattle.error.specs.declared.Refusal.{Refusal}
 use Rattle.clock.specs.Vector.{outcomeOf}
+use Rattle.clock.specs.declared.vector.Outcome.the-variants.{Done}
 use Rattle.row.specs.declared.StampedOperation.{StampedOperation}
 use Rattle.row.specs.declared.Reading.{Reading}
 use Rattle.row.specs.declared.Reading.the-variants.{Read, Refused}
@@ -32,10 +34,14 @@ pub record Brings (s : List ℕ) (l : Limits) (time first n : ℕ) (valid : Answ
   pub few : n ≤ 64
   pub valid-is : valid ≡ validateAll l time rows
 
+-- a batch that is refused: no rows, and nothing validated
+abbrev pub noBatch : Refusal → BatchRead
+noBatch f = record { reading = Refused f; rows = 0; valid = Done }
+
 -- so many rows and then nothing, or the refusal
 abbrev pub RowsBy : Reading → List ℕ → ℕ → ℕ → Limits → ℕ → BatchRead → Type 0
 RowsBy (Read from) s first n l time r = (from ≡ first) × (r .rows ≡ n) × Brings s l time first n (outcomeOf (r .valid))
-RowsBy (Refused f) s first n l time r = whole s (readRows s n first) ≡ refused f
+RowsBy (Refused f) s first n l time r = (whole s (readRows s n first) ≡ refused f) × (r ≡ noBatch f)
 
 pub record ReadsRows (s : List ℕ) (first n : ℕ) (l : Limits) (time : ℕ) (r : BatchRead) : Type 0 where
   pub is : RowsBy (r .reading) s first n l time r
@@ -43,7 +49,7 @@ pub record ReadsRows (s : List ℕ) (first n : ℕ) (l : Limits) (time : ℕ) (r
 -- the whole batch, or the refusal
 abbrev pub BatchBy : Reading → List ℕ → Limits → ℕ → BatchRead → Type 0
 BatchBy (Read first) s l time r = Brings s l time first (r .rows) (outcomeOf (r .valid)) × (readBatch s ≡ whole s (readRows s (r .rows) first))
-BatchBy (Refused f) s l time r = readBatch s ≡ refused f
+BatchBy (Refused f) s l time r = (readBatch s ≡ refused f) × (r ≡ noBatch f)
 
 pub record ReadsBatch (s : List ℕ) (l : Limits) (time : ℕ) (r : BatchRead) : Type 0 where
   pub is : BatchBy (r .reading) s l time r

@@ -25,7 +25,7 @@ pub struct MergeLimits {
 }
 
 // How reading a batch ended: where its first row stands, or the refusal. How many rows it has and what 5 to 12 come
-// to; where the reading is refused these say nothing.
+// to; where the reading is refused no rows, and nothing refused by 5 to 12.
 pub struct BatchRead {
     pub reading: Reading,
     pub rows: usize,

@@ -13,11 +13,11 @@ ghost use mathlib.Core.Path.{_≡_};
 ghost use Prim.Native.Nat.{_≤_};
 ghost use lib.ListN.{length};
 ghost use Rattle.batch.specs.Views.{limitsOf};
-ghost use Rattle.batch.specs.Promises.{ReadsRows, ReadsBatch, RowsStart};
+ghost use Rattle.batch.specs.Promises.{noBatch, ReadsRows, ReadsBatch, RowsStart};
 
 // A batch that is refused.
 fn no_batch(r: Refusal) -> BatchRead
-    ensures { λ b. ⌜ b .reading ≡ Reading.Refused r ⌝ }
+    ensures { λ b. ⌜ b ≡ noBatch r ⌝ }
 {
     BatchRead {
         reading: Reading::Refused(r),

@@ -1,5 +1,6 @@
--- The order of vector times of Fidge (1988) and Mattern (1989): vectors are functions from authors to numbers,
--- "u ≤ v iff for all i, u[i] ≤ v[i]; u < v iff u ≤ v and u ≠ v; u || v iff neither u < v nor v < u". Assumes nothing.
+-- The order of vector times of Fidge (1988) and Mattern (1989): vectors are functions from authors to numbers, and
+-- "u ≤ v iff for all i, u[i] ≤ v[i]; u < v iff u ≤ v and u ≠ v; u || v iff neither u < v nor v < u". The last holds of
+-- u = v too, which a comparison has to tell apart: Equal is u ≤ v and v ≤ u, Concurrent neither of them. Assumes nothing.
 use Prim.Native.Nat.{ℕ, _≤_}
 use Rattle.clock.specs.declared.vector.CausalOrder.{CausalOrder}
 use Rattle.clock.specs.declared.vector.CausalOrder.the-variants.{Before, After, Equal, Concurrent}

@@ -9,7 +9,7 @@ use Rattle.stubs.specs.declared.ActorId.{ActorId}
 use Rattle.error.specs.declared.Refusal.{Refusal}
 use Rattle.error.specs.declared.Refusal.the-variants.{CounterOverflow, RemoteAhead}
 use Rattle.error.specs.Answer.{Answer, done, refused, Unit, unit}
-use Rattle.clock.specs.Hlc.{Hlc, sendEvent, receiveEvent}
+use Rattle.clock.specs.Hlc.{Hlc, initially, sendEvent, receiveEvent}
 use Rattle.clock.specs.declared.stamp.Timestamp.{Timestamp}
 use Rattle.clock.specs.declared.hybrid.HybridClock.{HybridClock}
 use Rattle.clock.specs.declared.hybrid.Issued.{Issued}
@@ -23,6 +23,10 @@ hlcOf j = record { l = j .«last_wall»; c = j .«last_counter» }
 
 abbrev pub stampHlc : Timestamp → Hlc
 stampHlc t = record { l = t .«wall_time»; c = t .«logical_counter» }
+
+-- a new clock: it has seen nothing, and its drift is the Rust's DEFAULT_MAX_DRIFT_MS
+abbrev pub newClock : ActorId → HybridClock
+newClock actor = record { actor = actor; «last_wall» = initially .l; «last_counter» = initially .c; «max_drift_ms» = 60000 }
 
 -- the clock of the same actor and drift at e
 abbrev pub movedTo : HybridClock → Hlc → HybridClock

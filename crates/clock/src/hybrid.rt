@@ -5,7 +5,7 @@ use stubs::ActorId;
 ghost use mathlib.Core.Path.{_≡_};
 ghost use Rattle.error.specs.Answer.{done};
 ghost use Rattle.clock.specs.Hlc.{max, receiveC};
-ghost use Rattle.clock.specs.Hybrid.{hlcOf, stampHlc, movedTo, stampAt, saturating, issuedOf, nowCall, updatedOf, updateCall};
+ghost use Rattle.clock.specs.Hybrid.{hlcOf, stampHlc, newClock, movedTo, stampAt, saturating, issuedOf, nowCall, updatedOf, updateCall};
 
 // Default bound on how far ahead of local time a remote stamp may be, in milliseconds.
 pub const DEFAULT_MAX_DRIFT_MS: u64 = 60000;
@@ -62,7 +62,7 @@ pub fn saturating_add(a: u64, b: u64) -> u64
 impl HybridClock {
     // A clock for `actor` that has seen nothing.
     pub fn new(actor: ActorId) -> HybridClock
-        ensures { λ r. ⌜ r ≡ record { actor = actor; «last_wall» = 0; «last_counter» = 0; «max_drift_ms» = 60000 } ⌝ }
+        ensures { λ r. ⌜ r ≡ newClock actor ⌝ }
     {
         HybridClock {
             actor,

@@ -5,10 +5,12 @@ use denote.Ref.{RefT, now}
 use mathlib.Core.List.{List}
 use native.Mathlib.Omega.{arith}
 use lib.ListN.{length, take, drop}
+use Rattle.words.specs.Areas.{behind}
+use Rattle.error.specs.declared.Refusal.{Refusal}
 use Rattle.error.specs.Answer.{Answer, done, refused, andThen, Got, got, bad, after}
 use Rattle.codec.specs.Reading.{Part, getVarint, getCount, getBytes, finish, gotPart, finishedAt, partOf}
 use Rattle.codec.specs.Envelopes.{maxFrame, maxSignature, closed, readEnvelope}
-use Rattle.codec.specs.Readers.{past, Within, partIn, readBy, moved, envelopeBy}
+use Rattle.codec.specs.Readers.{past, Within, partIn, partPlace, readBy, moved, envelopeBy}
 use Rattle.codec.specs.declared.Finished.{Finished}
 use Rattle.codec.specs.declared.Finished.the-variants as finished
 use Rattle.codec.specs.declared.reader.Reader.{Reader}
@@ -22,6 +24,13 @@ inside n r start len next e w = subst (λ (z : PartRead). Within n (gotPart z)) 
 pub part-is : (s : List ℕ) (r : PartRead) (start len next : ℕ) → r ≡ part.Part start len next → take (start + len - start) (drop start s) ≡ partIn s (gotPart r)
 unfolding partOf
 part-is s r start len next e = let same : start + len - start ≡ len = omega arith in ap (λ (m : ℕ). take m (drop start s)) same ∙ sym (ap (λ (z : PartRead). partIn s (gotPart z)) e)
+
+-- and where the part lies
+pub place-is : (p : ℕ × ℕ) (r : PartRead) (start len next : ℕ) → r ≡ part.Part start len next → behind p start ≡ partPlace p (gotPart r)
+place-is p r start len next e = sym (ap (λ (z : PartRead). partPlace p (gotPart z)) e)
+
+pub no-place : (p : ℕ × ℕ) (r : PartRead) (k : Refusal) → r ≡ part.Refused k → behind p 0 ≡ partPlace p (gotPart r)
+no-place p r k e = sym (ap (λ (z : PartRead). partPlace p (gotPart z)) e)
 
 counted : (s : List ℕ) (at max : ℕ) (g : Got ℕ) → getCount s at max ≡ g → Within (length s) (after g (λ n next. got (record { start = next; len = n }) (next + n)))
 counted s at max (got n next) e = count-inside s at max n next e

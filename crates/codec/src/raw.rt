@@ -10,12 +10,13 @@ use stubs::ActorId;
 ghost use mathlib.Core.Path.{_≡_};
 ghost use Prim.Native.Nat.{_+_, _-_, _%_, _≤_};
 ghost use lib.ListN.{length};
+ghost use denote.Ref.{ptr};
 ghost use Rattle.codec.specs.Leb128.{shortest};
 ghost use Rattle.codec.specs.Writing.{writtenOf, sized};
 ghost use Rattle.codec.specs.Parts.{room, sizedLength, Stored};
 ghost use Rattle.codec.specs.Reading.{gotNumber, gotPart, finishedAt};
 ghost use Rattle.codec.specs.Envelopes.{envelopeOf};
-ghost use Rattle.codec.specs.Readers.{past, Within, partIn, envelopeBy};
+ghost use Rattle.codec.specs.Readers.{partPlace, past, Within, partIn, envelopeBy};
 
 // The low seven bits of a number: the last byte of its varint.
 fn low7(v: u64) -> u8
@@ -105,10 +106,10 @@ pub fn past_part(read: PartRead, at: usize) -> usize
     }
 }
 
-// The part of s that was read, empty where it was refused.
+// The part of s that was read, the empty one at its start where it was refused.
 pub fn part_of(s: &[u8], read: PartRead) -> &[u8]
     requires { ⌜ Within (length (now s)) (gotPart read) ⌝ }
-    ensures { λ r. ⌜ now r ≡ partIn (now (s .entry)) (gotPart read) ⌝ }
+    ensures { λ r. ⌜ (now r ≡ partIn (now (s .entry)) (gotPart read)) × (ptr r ≡ partPlace (ptr (s .entry)) (gotPart read)) ⌝ }
 {
     let PartRead::Part {
         start,

@@ -12,7 +12,7 @@ ghost use Prim.Native.Nat.{_-_};
 ghost use lib.ListN.{length};
 ghost use Rattle.codec.specs.Reading.{getU8, getVarint, getCount, getBytes, finish, gotNumber, gotPart, finishedAt};
 ghost use Rattle.codec.specs.Envelopes.{readEnvelope, envelopeOf};
-ghost use Rattle.codec.specs.Readers.{partIn, readBy, moved};
+ghost use Rattle.codec.specs.Readers.{readBy, moved, ReadsBytes};
 
 // The bytes, and the position of the next one.
 pub struct Reader<'a> {
@@ -20,7 +20,7 @@ pub struct Reader<'a> {
     pub pos: usize,
 }
 
-// A part of the bytes and how it was read; the empty part where that is refused.
+// A part of the bytes and how it was read; the empty part at their start where that is refused.
 pub struct BytesRead<'a> {
     pub bytes: &'a [u8],
     pub read: PartRead,
@@ -63,9 +63,7 @@ impl<'a> Reader<'a> {
 
     // A length of at most `max`, and as many bytes, as a part of the slice.
     pub fn bytes(&mut self, max: u64) -> BytesRead<'a>
-        ensures { λ r. ⌜ (gotPart (r .read) ≡ readBy (λ s at. getBytes s at max) (now (self .entry)))
-            × (now (r .bytes) ≡ partIn (now (now (self .entry) .buf)) (readBy (λ s at. getBytes s at max) (now (self .entry))))
-            × (now (self .exit) ≡ moved (now (self .entry)) (readBy (λ s at. getBytes s at max) (now (self .entry)))) ⌝ }
+        ensures { λ r. ⌜ ReadsBytes max (now (self .entry)) r (now (self .exit)) ⌝ }
     {
         let read = crate::get_bytes(self.buf, self.pos, max);
         let bytes = raw::part_of(self.buf, read);

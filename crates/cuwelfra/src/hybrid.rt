@@ -8,7 +8,7 @@ use error::Told;
 use stubs::ActorId;
 ghost use mathlib.Core.Path.{_≡_};
 ghost use Rattle.clock.specs.Order.{stampOrder};
-ghost use Rattle.clock.specs.Hybrid.{nowCall, updateCall, issuedOf, updatedOf};
+ghost use Rattle.clock.specs.Hybrid.{newClock, nowCall, updateCall, issuedOf, updatedOf};
 ghost use Rattle.cuwelfra.specs.Hybrids.{clockBy, stampBy, orderNumber, hybridTold, issuedTold, updatedTold};
 
 #[repr(C)]
@@ -134,7 +134,7 @@ pub extern "C" fn cuwelfra_timestamp_cmp(
 
 #[no_mangle]
 pub extern "C" fn cuwelfra_hybrid_new(actor: u64) -> HybridTold
-    ensures { λ r. ⌜ r ≡ hybridTold (clockBy actor 0 0 60000) ⌝ }
+    ensures { λ r. ⌜ r ≡ hybridTold (newClock (record { 0 = actor })) ⌝ }
 {
     hybrid_told(HybridClock::new(ActorId(actor)))
 }

@@ -79,7 +79,7 @@ starts-by batch starts r first s e = rw e at s
 
 pub unread-by : (l : Limits) (time : ℕ) (batch : List ℕ) (r : BatchRead) (f : Refusal) → ReadsBatch batch l time r → r .reading ≡ reading.Refused f
     → readBatch batch ≡ refused f
-unread-by l time batch r f b e = rw e at (b .is)
+unread-by l time batch r f b e = (rw e at (b .is)) .0
 
 -- the room in scratch that was tested
 pub room-scratch : (n : ℕ) (scratch output : List ℕ) → roomFor n scratch output ≡ true → 704 * n ≤ length scratch

@@ -7,6 +7,7 @@ use error::Refusal;
 use libc::STDIN_FILENO;
 use libc::STDOUT_FILENO;
 use log::change::insert;
+use log::lookup::lookup;
 use merge::Applied;
 use merge::MergeReport;
 use merge::call::apply_remote_ops;
@@ -27,6 +28,7 @@ enum Verdict {
     Scratch,
     Lines,
     Behind,
+    Payload,
     Log,
     Held,
     Head,
@@ -39,6 +41,7 @@ struct Tally {
     batches: u64,
     refused: u64,
     rows: u64,
+    lookups: u64,
 }
 
 // The areas that are lent: a log of up to 128 slots, and as much as the longest record needs of the others.
@@ -82,6 +85,7 @@ fn replay(
         batches: 0,
         refused: 0,
         rows: 0,
+        lookups: 0,
     };
     let mut size: usize = 0;
     let mut i: u64 = 0;
@@ -277,6 +281,7 @@ fn act(
         2 => floor_setting(record, log, held, head),
         3 => batch_call(record, log, held, head, block, lines, scratch, output),
         4 => local_row(log, held, head, block),
+        5 => row_lookup(record, log, held, head, block),
         _ => Verdict::Unreadable,
     }
 }
@@ -312,6 +317,16 @@ fn floor_setting(record: &[u8], log: &[u8], held: &[u8], head: &mut [u8]) -> Ver
 
 fn local_row(log: &mut [u8], held: &[u8], head: &mut [u8], slot: &[u8]) -> Verdict {
     done(insert(log, held, head, slot))
+}
+
+// Looks a row up: its payload comes back as a part of the area that it stands in.
+fn row_lookup(record: &[u8], log: &[u8], held: &[u8], head: &[u8], payload: &[u8]) -> Verdict {
+    let actor = ActorId(word(record, 3));
+    let part = lookup(log, held, head, actor, word(record, 4));
+    if !check::same(part, payload) {
+        return Verdict::Payload;
+    }
+    Verdict::Same
 }
 
 // Floor settings and local rows were recorded where they are accepted.
@@ -484,6 +499,7 @@ fn tallied(record: &[u8], t: Tally) -> Tally {
         batches: more(t.batches, kind == 3),
         refused: more(t.refused, word(record, 13) != 0),
         rows: more(t.rows, kind == 4),
+        lookups: more(t.lookups, kind == 5),
     }
 }
 
@@ -505,6 +521,7 @@ fn agrees(i: u64, verdict: Verdict) -> bool {
         Verdict::Scratch => differs(i, b"scratch is not zero"),
         Verdict::Lines => differs(i, b"the lines of the output differ"),
         Verdict::Behind => differs(i, b"the output behind the lines has changed"),
+        Verdict::Payload => differs(i, b"the payload differs"),
         Verdict::Log => differs(i, b"the log area differs"),
         Verdict::Held => differs(i, b"the held area differs"),
         Verdict::Head => differs(i, b"the head area differs"),
@@ -536,7 +553,8 @@ fn finish(count: u64, t: Tally) -> bool {
     say_count(t.floors, b" floor settings, ");
     say_count(t.batches, b" batch calls (");
     say_count(t.refused, b" refused), ");
-    say_count(t.rows, b" rows inserted: all as recorded\n");
+    say_count(t.rows, b" rows inserted, ");
+    say_count(t.lookups, b" payloads looked up: all as recorded\n");
     true
 }
 

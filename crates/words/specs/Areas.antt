@@ -1,4 +1,4 @@
--- What is written to a lent area. Assumes nothing.
+-- What is written to a lent area, and where a part of one lies. Assumes nothing.
 use Prim.Native.Nat.{ℕ, _+_, _-_, _≤_, _<_}
 use mathlib.Core.Path.{_≡_}
 use mathlib.Core.List.{List, _++_}
@@ -27,3 +27,7 @@ movedUp from to by s = take (from + by) s ++ (take (to - from) (drop from s) ++ 
 -- s with the elements from `from` up to `to` moved down by `by`: what lies from to - by on stays
 unfoldable pub movedDown : ℕ → ℕ → ℕ → List ℕ → List ℕ
 movedDown from to by s = take (from - by) s ++ (take (to - from) (drop from s) ++ drop (to - by) s)
+
+-- the place n bytes behind p; a place is a block of memory and an offset in it
+abbrev pub behind : ℕ × ℕ → ℕ → ℕ × ℕ
+behind p n = (p .0, n + p .1)

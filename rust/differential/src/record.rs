@@ -3,22 +3,24 @@
 //! Numbers are big-endian words of 64 bits. The file begins with three: the bytes "cuwelfra", how many records follow, and
 //! the words of a record's head, 26. A record is its head and two blocks of bytes. The head:
 //!
-//! | word | new store | floor setting | batch call | local row |
-//! |---|---|---|---|---|
-//! | 0 | 1 | 2 | 3 | 4 |
-//! | 1: length of the first block | 0, or 520 for a clock area | 0 | that of the batch | 704 for a slot |
-//! | 2: length of the second block | 0 | 0 | that of the lines | 0 |
-//! | 3 | slots of the log area | wall time | time in ms | 0 |
-//! | 4 to 10 | 0 | counter, author, then 0 | the settings, `max_pending` to `max_payload` | 0 |
-//! | 11, 12 | 0 | 0 | lengths of scratch and output | 0 |
-//! | 13 to 15 | 0 | 0 | the refusal's number and values, or 0 | 0 |
-//! | 16 to 22 | 0 | 0 | the counts, `applied` to `dropped` | 0 |
-//! | 23 to 25 | check numbers of log, held and head area after the call | the same | the same | the same |
+//! | word | new store | floor setting | batch call | local row | lookup |
+//! |---|---|---|---|---|---|
+//! | 0 | 1 | 2 | 3 | 4 | 5 |
+//! | 1: length of the first block | 0, or 520 for a clock area | 0 | that of the batch | 704 for a slot | that of the payload |
+//! | 2: length of the second block | 0 | 0 | that of the lines | 0 | 0 |
+//! | 3 | slots of the log area | wall time | time in ms | 0 | author |
+//! | 4 | 0 | counter | `max_pending` | 0 | sequence |
+//! | 5 to 10 | 0 | author, then 0 | the other settings, up to `max_payload` | 0 | 0 |
+//! | 11, 12 | 0 | 0 | lengths of scratch and output | 0 | 0 |
+//! | 13 to 15 | 0 | 0 | the refusal's number and values, or 0 | 0 | 0 |
+//! | 16 to 22 | 0 | 0 | the counts, `applied` to `dropped` | 0 | 0 |
+//! | 23 to 25 | check numbers of log, held and head area after the call | the same | the same | the same | the same |
 //!
 //! A new store has areas of zeros; a clock area goes to 48 and 568 of the head, as clock and compacted clock. The records up
 //! to the next new store are calls on it, one after the other. Before a batch call each byte of scratch and output is 165.
 //! After it scratch is zero, and the output begins with the lines; its other bytes are 165 still. A local row is inserted
-//! into the log.
+//! into the log. A lookup gives the payload of the first logged row with that author and sequence, else of the held one, else
+//! no byte.
 //!
 //! A first block has at most 2,048 bytes, a second one and an output 2,304, scratch 90,112, and a log area 128 slots.
 //!
@@ -159,6 +161,33 @@ impl Store<'_> {
             lent.output as u64,
         ];
         self.put(3, &numbers, &answer.told, [&lent.batch, &answer.output()]);
+        if let Some(row) = self.wanted(offer) {
+            self.look_up(row);
+        }
+    }
+
+    /// The author and sequence to look up next: of a row that was offered, is logged or is held, in turn.
+    fn wanted(&self, offer: &Offer) -> Option<(u64, u64)> {
+        match self.sample.records % 4 {
+            0 => offer.rows.last().map(|row| (row.row.author, row.row.seq)),
+            1 => (self.original.log.ops().first()).map(|op| (op.actor.0, op.seq)),
+            2 => (self.original.held().last()).map(|held| (held.row.author, held.row.seq)),
+            _ => None,
+        }
+    }
+
+    /// The payload of a row, by a search in the original's rows.
+    fn look_up(&mut self, (author, seq): (u64, u64)) {
+        let mut logged = self.original.log.ops().iter();
+        let logged = logged.find(|op| (op.actor.0, op.seq) == (author, seq));
+        let mut held = self.original.held().iter();
+        let held = held.find(|held| (held.row.author, held.row.seq) == (author, seq));
+        let payload = match (logged, held) {
+            (Some(op), _) => op.op.bytes.clone(),
+            (None, Some(held)) => held.row.payload.clone(),
+            (None, None) => Vec::new(),
+        };
+        self.put(5, &[author, seq], &MergeTold::default(), [&payload, &[]]);
     }
 
     /// A local row, where there is room.

@@ -1,5 +1,5 @@
 use Rattle.row.proofs.RowSteps.{num, no-num}
-use Rattle.batch.proofs.Counting.{no-count, over-count, batch-by-rows}
+use Rattle.batch.proofs.Counting.{no-count, over-count, batch-by-rows, ended-as}
 use Rattle.batch.proofs.Starting.{none-start, starts-by-rows}
 use borrow.Author.Needs.{needs}
 use Rattle.batch.proofs.raw.read_batch.Statement.{statement}
@@ -18,13 +18,13 @@ no-batch-requires : tie.Need-no-batch-requires
 no-batch-requires c κs = search needs
 
 returns : tie.Need-returns
-returns c = (no-count _ _ _ (no-num _ _ (c .before .before .before .get-varint .ensures) (c .before .enum-told .given .1)) (c .no-batch .ensures), none-start _ _ _ (c .no-batch .ensures))
+returns c = (no-count _ _ _ (no-num _ _ (c .before .before .before .get-varint .ensures) (c .before .enum-told .given .1)) (c .no-batch .ensures), none-start _ _ _ (ended-as (c .no-batch .ensures)))
 
 no-batch-requires-2 : tie.Need-no-batch-requires-2
 no-batch-requires-2 c κs = search needs
 
 returns-2 : tie.Need-returns-2
-returns-2 c = (over-count _ _ _ (num _ _ (c .before .before .before .before .before .get-varint .ensures) (c .before .before .before .count .given .1)) (c .before .if1 .taken) (c .no-batch2 .ensures), none-start _ _ _ (c .no-batch2 .ensures))
+returns-2 c = (over-count _ _ _ (num _ _ (c .before .before .before .before .before .get-varint .ensures) (c .before .before .before .count .given .1)) (c .before .if1 .taken) (c .no-batch2 .ensures), none-start _ _ _ (ended-as (c .no-batch2 .ensures)))
 
 read-rows-requires : tie.Need-read-rows-requires
 read-rows-requires c κs = search needs

@@ -5,7 +5,7 @@ use native.Mathlib.Omega.{arith}
 use lib.ListN.{length}
 use Rattle.clock.specs.Vector.{outcomeOf}
 use Rattle.batch.specs.Views.{limitsOf}
-use Rattle.batch.proofs.Counting.{Counting, counting-start, left-over, all-read, row-stops, counting-turn, rows-refused}
+use Rattle.batch.proofs.Counting.{Counting, counting-start, left-over, all-read, row-stops, counting-turn, rows-refused, ended-as}
 use Rattle.batch.proofs.Starting.{Starting, starting-start, starting-turn, all-noted, none-start}
 use Rattle.batch.proofs.raw.read_rows.Statement.{statement}
 use Rattle.batch.proofs.raw.read_rows.Tie as tie
@@ -32,7 +32,7 @@ same-length : tie.Need-same-length Inv-loop μ-loop
 same-length c = search needs
 
 returns : tie.Need-returns Inv-loop μ-loop
-returns c = (rows-refused (c .no-batch .ensures) (row-stops (c .before .before .before .before .before .before .loop .inv .1) (c .before .before .before .before .before .loop-test .taken) (c .before .before .before .before .read-row .ensures) (c .before .before .reading .given .1)), none-start _ _ _ (c .no-batch .ensures))
+returns c = (rows-refused (c .no-batch .ensures) (row-stops (c .before .before .before .before .before .before .loop .inv .1) (c .before .before .before .before .before .loop-test .taken) (c .before .before .before .before .read-row .ensures) (c .before .before .reading .given .1)), none-start _ _ _ (ended-as (c .no-batch .ensures)))
 
 enum-known-reading-2 : tie.Need-enum-known-reading-2 Inv-loop μ-loop
 enum-known-reading-2 c = search needs
@@ -62,7 +62,7 @@ same-length-2 : tie.Need-same-length-2 Inv-loop μ-loop
 same-length-2 c = search needs
 
 returns-2 : tie.Need-returns-2 Inv-loop μ-loop
-returns-2 c = (rows-refused (c .no-batch2 .ensures) (left-over (c .before .before .before .loop .inv .1) (c .before .before .loop-test .left) (c .before .if1 .taken)), none-start _ _ _ (c .no-batch2 .ensures))
+returns-2 c = (rows-refused (c .no-batch2 .ensures) (left-over (c .before .before .before .loop .inv .1) (c .before .before .loop-test .left) (c .before .if1 .taken)), none-start _ _ _ (ended-as (c .no-batch2 .ensures)))
 
 same-length-3 : tie.Need-same-length-3 Inv-loop μ-loop
 same-length-3 c = search needs

@@ -1,5 +1,5 @@
 use native.Mathlib.Omega.{arith}
-use Rattle.codec.proofs.Taken.{inside, part-is}
+use Rattle.codec.proofs.Taken.{inside, part-is, place-is, no-place}
 use borrow.Author.Needs.{needs}
 use Rattle.codec.proofs.raw.part_of.Statement.{statement}
 use Rattle.codec.proofs.raw.part_of.Tie as tie
@@ -26,7 +26,7 @@ part-result-end c = search needs
 
 -- src/reader.rt:59:9
 returns : tie.Need-returns
-returns c = search needs
+returns c = (search needs, no-place _ _ _ (c .before .enum-told .given .1))
 
 -- src/reader.rt:61:15
 add-end : tie.Need-add-end
@@ -46,7 +46,7 @@ part-result-end-2 c = omega (arith, inside _ _ _ _ _ (c .before .read .given .1)
 
 -- src/reader.rt:49:1
 returns-2 : tie.Need-returns-2
-returns-2 c = part-is _ _ _ _ _ (c .before .before .read .given .1)
+returns-2 c = (part-is _ _ _ _ _ (c .before .before .read .given .1), place-is _ _ _ _ _ (c .before .before .read .given .1))
 
 pub part-of-spec : {M : Type 1} → statement M
 part-of-spec =

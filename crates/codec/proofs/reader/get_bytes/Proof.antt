@@ -40,7 +40,7 @@ use denote.Triple.Table.{entered, cited}
 use denote.Triple.Walked.{says, Stays, stay-none, stay-none-slice, walkOf, goes-none, goes-none-slice, ends-at, walked, walk-meets}
 use denote.Exit.{yes}
 use Rattle.codec.specs.Reading.{getBytes, gotPart}
-use Rattle.codec.specs.Readers.{partIn, readBy, moved}
+use Rattle.codec.specs.Readers.{ReadsBytes, readBy, moved}
 use Rattle.codec.specs.declared.PartRead.{PartRead}
 use Rattle.codec.specs.declared.reader.BytesRead.{BytesRead}
 use Rattle.codec.specs.declared.reader.Reader.{Reader}
@@ -104,9 +104,6 @@ module _ {M : Type 1} (𝓤 : URA M) (H : Heap 𝓤) (A : Atoms 𝓤) (W : Given
     place-is : (r : BytesRead) (vs : List Val) → Is R r vs → Is P.the-row (r .read) (P′.lowered (r .read) ∷ [])
     place-is r vs is = subst (Is P.the-row (r .read)) (P′.lowers .val-is (r .read) _ (LL.owed (S.the-type (α κ)) (S′.the-laws (α κ)) r vs is .1 .0)) (LL.owed (S.the-type (α κ)) (S′.the-laws (α κ)) r vs is .1 .0)
 
-    abbrev Told : BytesRead → Reader → Type 0
-    Told r d′ = (gotPart (r .read) ≡ readBy (λ s at. getBytes s at m) d) × (now (r .bytes) ≡ partIn (now s) (readBy (λ s at. getBytes s at m) d)) × (d′ ≡ moved d (readBy (λ s at. getBytes s at m) d))
-
     exits : (p : PartRead) → Is P.the-row p (P′.lowered p ∷ []) → gotPart p ≡ getBytes (now s) n m → ent 𝓤 (⋆ 𝓤 H A (‵ (flft κ q) ∷ ‵ (ShrSlice (named 0) κ u8 .own s (v ∷ [])) ∷ [])) (Post (P′.lowered p))
     exits p is e =
         qed W (‵ (flft κ q) ∷ ‵ (ShrSlice (named 0) κ u8 .own s (v ∷ [])) ∷ []) ∵
@@ -130,8 +127,8 @@ module _ {M : Type 1} (𝓤 : URA M) (H : Heap 𝓤) (A : Atoms 𝓤) (W : Given
         -- [what `bytes` asks; what is kept; true; what the slice owns; the numbers'; _6; …; room for _5; …; _4's end; _3; …; _2; …; _1; …; room for _0; …]
         calls-at ! fm (Bytes 𝓤 H A at-mem run) known (to-bytes l₄ (x .0) (x .1)) (and-then ! (load ! (from ! (stop !)) (look ! 5 refl)) (and-then ! (load ! (from ! (stop !)) (look ! 10 refl)) (no-more !))) (λ u.
         use1 W (later (some (λ (r : BytesRead). (toks 𝓤 H A W κ q l₄ (x .0) ⊛ ‵ (R .own r (u ∷ []))) ⊛ raw (ensured 𝓤 H A bytes.ended (bytes.clauses 𝓤 H A at-mem run) (x .0 ∷ κ, (κ, tt)) (lent l₄ (x .1)) tt r)))) (id⊢ 𝓤 _) $ await ! tt $ pick ! (λ r.
-        split ! $ move ! (1 ∷ []) $ use1 W (some (λ (zs : Reader × (Unit {0} × Unit {0})). ‵ (lasts bytes.ended (x .0 ∷ κ, (κ, tt)) (lent l₄ (x .1)) zs) ⊛ raw (fact 𝓤 (Told r (zs .0))))) (id⊢ 𝓤 _) $ pick ! (λ zs.
-        split ! $ move ! (1 ∷ []) $ heard ! (Told r (zs .0)) (λ e. fsplit ! $ move ! (2 ∷ []) $ split ! $ move ! (1 ∷ []) $ peeks ! R (Is R) (shows 𝓤 H A R) r (u ∷ []) (λ is.
+        split ! $ move ! (1 ∷ []) $ use1 W (some (λ (zs : Reader × (Unit {0} × Unit {0})). ‵ (lasts bytes.ended (x .0 ∷ κ, (κ, tt)) (lent l₄ (x .1)) zs) ⊛ raw (fact 𝓤 (ReadsBytes m d r (zs .0))))) (id⊢ 𝓤 _) $ pick ! (λ zs.
+        split ! $ move ! (1 ∷ []) $ heard ! (ReadsBytes m d r (zs .0)) (λ e. fsplit ! $ move ! (2 ∷ []) $ split ! $ move ! (1 ∷ []) $ peeks ! R (Is R) (shows 𝓤 H A R) r (u ∷ []) (λ is.
         -- [the answer; the tokens; the last value; …; what is kept; true; what the slice owns; the numbers'; _6; …; room for _5; …; _4's end; _3; …; _2; …; _1; …; room for _0; …]
         land ! (from ! (stop !)) (init ! 10 refl (LL.lawful (S.the-type (record { mir = erased; lft = κ })) (S′.the-laws (record { mir = erased; lft = κ })) 𝓤 H A W .typed r _ is .0)) $
         rewrite ! 10 (λ (w : Val). ‵ (fat fullShare (S′.mir erased) l₅ 0 w)) (ap only (S′.lowers (α κ) .val-is r (u ∷ []) is)) refl $
@@ -140,7 +137,7 @@ module _ {M : Type 1} (𝓤 : URA M) (H : Heap 𝓤) (A : Atoms 𝓤) (W : Given
         assigns ! (of-opd ! (load ! (from ! (fld ! refl (stop !))) (look-in ! 9 (sub ! 1 refl (whole !))))) (from ! (stop !)) (init ! 18 refl (EL.lawful P.the-type P′.the-laws 𝓤 H A W tt .typed (r .read) _ (place-is r _ is) .0)) $
         returns ! (look ! 18 refl) $ forget ! 0 refl $ forget ! 7 refl $ forget ! 9 refl $ forget ! 12 refl $ forget ! 14 refl $ forget ! 16 refl $ forget ! 18 refl $
         move ! (18 ∷ 19 ∷ []) $ free1 ! $ move ! (16 ∷ 17 ∷ []) $ free1 ! $ move ! (14 ∷ 15 ∷ []) $ free1 ! $ move ! (12 ∷ 13 ∷ []) $ free1 ! $ move ! (0 ∷ 11 ∷ []) $ free1 ! $ move ! (8 ∷ 9 ∷ []) $ free1 ! $ move ! (6 ∷ 7 ∷ []) $ free1 ! $ free0 ! $
-        split ! $ keep ! (1 ∷ 5 ∷ []) $ by ! (exits (r .read) (place-is r _ is) (e .0))))))))))))))))
+        split ! $ keep ! (1 ∷ 5 ∷ []) $ by ! (exits (r .read) (place-is r _ is) (e .ended))))))))))))))))
 
   get-bytes-meets : (𝓣 : Tables 𝓤 H) → Triple 𝓤 (𝓣 .C #bytes) (Bytes 𝓤 H A at-mem run) → Meets 𝓤 H A self.signature (WpFn 𝓤 H (𝓣 .C) (𝓣 .Λ) code.function) (self.spec 𝓤 H A at-mem run)
   get-bytes-meets 𝓣 known =

@@ -43,7 +43,7 @@ use denote.Triple.Walked.{says, Stays, stay-none-slice, walkOf, goes-none-slice,
 use denote.Exit.{yes}
 use Rattle.codec.specs.Reading.{getVarint, getBytes, finish, gotNumber, gotPart, finishedAt}
 use Rattle.codec.specs.Envelopes.{envelopeOf, readEnvelope, maxFrame, maxSignature}
-use Rattle.codec.specs.Readers.{partIn, readBy, moved, envelopeBy}
+use Rattle.codec.specs.Readers.{ReadsBytes, readBy, moved, envelopeBy}
 use Rattle.codec.specs.declared.NumberRead.{NumberRead}
 use Rattle.codec.specs.declared.PartRead.{PartRead}
 use Rattle.codec.specs.declared.Finished.{Finished}
@@ -161,9 +161,6 @@ module _ {M : Type 1} (𝓤 : URA M) (H : Heap 𝓤) (A : Atoms 𝓤) (W : Given
     goes-bytes : (d : Reader) (m l a : ℕ) (δ : GName) → ent 𝓤 (⋆ 𝓤 H A (toks 𝓤 H A W κ q l a ∷ ‵ (owns (MutRef (named 0) (a ∷ κ) (B κ) ∷ u64 ∷ []) (lent d m l δ) (sent m l)) ∷ [])) (Bytes 𝓤 H A at-mem run .pre (to-bytes d m l a δ))
     goes-bytes d m l a δ = qed W (toks 𝓤 H A W κ q l a ∷ ‵ (owns (MutRef (named 0) (a ∷ κ) (B κ) ∷ u64 ∷ []) (lent d m l δ) (sent m l)) ∷ []) ∵ join ! $ frame ! $ done !
 
-    abbrev Told : ℕ → Reader → BytesRead → Reader → Type 0
-    Told m d r d′ = (gotPart (r .read) ≡ readBy (λ s at. getBytes s at m) d) × (now (r .bytes) ≡ partIn (now (d .buf)) (readBy (λ s at. getBytes s at m) d)) × (d′ ≡ moved d (readBy (λ s at. getBytes s at m) d))
-
     abbrev to-end : Reader → ℕ → ℕ → GName → End 𝓤 H A at-mem run .Ghost
     to-end d l a δ = (((a ∷ κ, (κ, tt)), (PosShare·left q, (PosShare·right q, tt)), (meet-⊑-right (a ∷ []) κ, tt), (ref l δ d, tt), (vptr l 0 ∷ [], tt)), tt)
 
@@ -239,8 +236,8 @@ module _ {M : Type 1} (𝓤 : URA M) (H : Heap 𝓤) (A : Atoms 𝓤) (W : Given
         nothing ! $ owned ! u64 (Is u64) (uint-makes 𝓤 H A W w64) maxFrame _ (refl, lit< tt) $ fjoin ! $ move ! (1 ∷ 0 ∷ []) $ fjoin ! $ move ! (2 ∷ 0 ∷ []) $ use2 W (raw (Bytes 𝓤 H A at-mem run .pre (to-bytes (z₁ .0) maxFrame l₂ (y .0) (y .1)))) (goes-bytes (z₁ .0) maxFrame l₂ (y .0) (y .1)) $
         calls-at ! fm (Bytes 𝓤 H A at-mem run) known-bytes (to-bytes (z₁ .0) maxFrame l₂ (y .0) (y .1)) (and-then ! (load ! (from ! (stop !)) (look ! 11 refl)) (and-then ! (big-lit ! (record { fits = lit< tt })) (no-more !))) (λ u₄.
         use1 W (later (some (λ (r : BytesRead). (toks 𝓤 H A W κ q l₂ (y .0) ⊛ ‵ (R .own r (u₄ ∷ []))) ⊛ raw (ensured 𝓤 H A bytes.ended (bytes.clauses 𝓤 H A at-mem run) (y .0 ∷ κ, (κ, tt)) (lent (z₁ .0) maxFrame l₂ (y .1)) tt r)))) (id⊢ 𝓤 _) $ await ! tt $ pick ! (λ r₄.
-        split ! $ move ! (1 ∷ []) $ use1 W (some (λ (zs : Reader × (Unit {0} × Unit {0})). ‵ (lasts bytes.ended (y .0 ∷ κ, (κ, tt)) (lent (z₁ .0) maxFrame l₂ (y .1)) zs) ⊛ raw (fact 𝓤 (Told maxFrame (z₁ .0) r₄ (zs .0))))) (id⊢ 𝓤 _) $ pick ! (λ z₂.
-        split ! $ move ! (1 ∷ []) $ heard ! (Told maxFrame (z₁ .0) r₄ (z₂ .0)) (λ e₂. fsplit ! $ move ! (1 ∷ []) $ drop ! $ move ! (1 ∷ []) $ split ! $ move ! (1 ∷ []) $ peeks ! R (Is R) (shows 𝓤 H A R) r₄ (u₄ ∷ []) (λ is₄.
+        split ! $ move ! (1 ∷ []) $ use1 W (some (λ (zs : Reader × (Unit {0} × Unit {0})). ‵ (lasts bytes.ended (y .0 ∷ κ, (κ, tt)) (lent (z₁ .0) maxFrame l₂ (y .1)) zs) ⊛ raw (fact 𝓤 (ReadsBytes maxFrame (z₁ .0) r₄ (zs .0))))) (id⊢ 𝓤 _) $ pick ! (λ z₂.
+        split ! $ move ! (1 ∷ []) $ heard ! (ReadsBytes maxFrame (z₁ .0) r₄ (z₂ .0)) (λ e₂. fsplit ! $ move ! (1 ∷ []) $ drop ! $ move ! (1 ∷ []) $ split ! $ move ! (1 ∷ []) $ peeks ! R (Is R) (shows 𝓤 H A R) r₄ (u₄ ∷ []) (λ is₄.
         land ! (from ! (stop !)) (init ! 23 refl (LL.lawful (S.the-type erasedLft) (S′.the-laws erasedLft) 𝓤 H A W .typed r₄ _ is₄ .0)) $ rewrite ! 23 (λ (w : Val). ‵ (fat fullShare (S′.mir erased) l₄ 0 w)) (ap only (S′.lowers (α κ) .val-is r₄ (u₄ ∷ []) is₄)) refl $ drop ! $ move ! (2 ∷ 0 ∷ 1 ∷ []) $
         use3 W (later (given (Is (B κ) (z₂ .0) (T′.lowered (z₂ .0) ∷ [])) (‵ (cell l₂ (z₂ .0)) ⊛ (‵ (own κ (z₂ .0)) ⊛ ‵ (flft κ q))))) (back 𝓤 H A W κ q l₂ (y .0) (y .1) (z₂ .0)) $ await ! tt $ learn ! (λ _. split ! $ move ! (1 ∷ []) $ split ! $ move ! (2 ∷ []) $
         -- the signature
@@ -249,8 +246,8 @@ module _ {M : Type 1} (𝓤 : URA M) (H : Heap 𝓤) (A : Atoms 𝓤) (W : Given
         nothing ! $ owned ! u64 (Is u64) (uint-makes 𝓤 H A W w64) maxSignature _ (refl, lit< tt) $ fjoin ! $ move ! (1 ∷ 0 ∷ []) $ fjoin ! $ move ! (2 ∷ 0 ∷ []) $ use2 W (raw (Bytes 𝓤 H A at-mem run .pre (to-bytes (z₂ .0) maxSignature l₂ (z .0) (z .1)))) (goes-bytes (z₂ .0) maxSignature l₂ (z .0) (z .1)) $
         calls-at ! fm (Bytes 𝓤 H A at-mem run) known-bytes (to-bytes (z₂ .0) maxSignature l₂ (z .0) (z .1)) (and-then ! (load ! (from ! (stop !)) (look ! 9 refl)) (and-then ! (big-lit ! (record { fits = lit< tt })) (no-more !))) (λ u₅.
         use1 W (later (some (λ (r : BytesRead). (toks 𝓤 H A W κ q l₂ (z .0) ⊛ ‵ (R .own r (u₅ ∷ []))) ⊛ raw (ensured 𝓤 H A bytes.ended (bytes.clauses 𝓤 H A at-mem run) (z .0 ∷ κ, (κ, tt)) (lent (z₂ .0) maxSignature l₂ (z .1)) tt r)))) (id⊢ 𝓤 _) $ await ! tt $ pick ! (λ r₅.
-        split ! $ move ! (1 ∷ []) $ use1 W (some (λ (zs : Reader × (Unit {0} × Unit {0})). ‵ (lasts bytes.ended (z .0 ∷ κ, (κ, tt)) (lent (z₂ .0) maxSignature l₂ (z .1)) zs) ⊛ raw (fact 𝓤 (Told maxSignature (z₂ .0) r₅ (zs .0))))) (id⊢ 𝓤 _) $ pick ! (λ z₃.
-        split ! $ move ! (1 ∷ []) $ heard ! (Told maxSignature (z₂ .0) r₅ (z₃ .0)) (λ e₃. fsplit ! $ move ! (1 ∷ []) $ drop ! $ move ! (1 ∷ []) $ split ! $ move ! (1 ∷ []) $ peeks ! R (Is R) (shows 𝓤 H A R) r₅ (u₅ ∷ []) (λ is₅.
+        split ! $ move ! (1 ∷ []) $ use1 W (some (λ (zs : Reader × (Unit {0} × Unit {0})). ‵ (lasts bytes.ended (z .0 ∷ κ, (κ, tt)) (lent (z₂ .0) maxSignature l₂ (z .1)) zs) ⊛ raw (fact 𝓤 (ReadsBytes maxSignature (z₂ .0) r₅ (zs .0))))) (id⊢ 𝓤 _) $ pick ! (λ z₃.
+        split ! $ move ! (1 ∷ []) $ heard ! (ReadsBytes maxSignature (z₂ .0) r₅ (z₃ .0)) (λ e₃. fsplit ! $ move ! (1 ∷ []) $ drop ! $ move ! (1 ∷ []) $ split ! $ move ! (1 ∷ []) $ peeks ! R (Is R) (shows 𝓤 H A R) r₅ (u₅ ∷ []) (λ is₅.
         land ! (from ! (stop !)) (init ! 21 refl (LL.lawful (S.the-type erasedLft) (S′.the-laws erasedLft) 𝓤 H A W .typed r₅ _ is₅ .0)) $ rewrite ! 21 (λ (w : Val). ‵ (fat fullShare (S′.mir erased) l₅ 0 w)) (ap only (S′.lowers (α κ) .val-is r₅ (u₅ ∷ []) is₅)) refl $ drop ! $ move ! (2 ∷ 0 ∷ 1 ∷ []) $
         use3 W (later (given (Is (B κ) (z₃ .0) (T′.lowered (z₃ .0) ∷ [])) (‵ (cell l₂ (z₃ .0)) ⊛ (‵ (own κ (z₃ .0)) ⊛ ‵ (flft κ q))))) (back 𝓤 H A W κ q l₂ (z .0) (z .1) (z₃ .0)) $ await ! tt $ learn ! (λ _. split ! $ move ! (1 ∷ []) $ split ! $ move ! (2 ∷ []) $
         -- the end
@@ -278,7 +275,7 @@ module _ {M : Type 1} (𝓤 : URA M) (H : Heap 𝓤) (A : Atoms 𝓤) (W : Given
         forget ! 1 refl $ forget ! 5 refl $ forget ! 7 refl $ forget ! 9 refl $ forget ! 11 refl $ forget ! 13 refl $ forget ! 15 refl $ forget ! 17 refl $ forget ! 19 refl $ forget ! 21 refl $ forget ! 23 refl $ forget ! 25 refl $ forget ! 28 refl $ forget ! 30 refl $
         move ! (30 ∷ 31 ∷ []) $ free1 ! $ move ! (28 ∷ 29 ∷ []) $ free1 ! $ move ! (1 ∷ 27 ∷ []) $ free1 ! $ move ! (24 ∷ 25 ∷ []) $ free1 ! $ move ! (22 ∷ 23 ∷ []) $ free1 ! $ move ! (20 ∷ 21 ∷ []) $ free1 ! $ move ! (18 ∷ 19 ∷ []) $ free1 ! $
         move ! (16 ∷ 17 ∷ []) $ free1 ! $ move ! (14 ∷ 15 ∷ []) $ free1 ! $ move ! (12 ∷ 13 ∷ []) $ free1 ! $ move ! (10 ∷ 11 ∷ []) $ free1 ! $ move ! (8 ∷ 9 ∷ []) $ free1 ! $ move ! (6 ∷ 7 ∷ []) $ free1 ! $ move ! (4 ∷ 5 ∷ []) $ free1 ! $ free0 ! $
-        keep ! (2 ∷ 0 ∷ 3 ∷ []) $ by ! (exits w u (e ∙ enveloped s d₀ (z₁ .0) (z₂ .0) (z₃ .0) _ _ _ r₆ (λ i. record { buf = e₀ .0 i; pos = e₀ .1 i }) (e₁ .0) (e₁ .1) (e₂ .0) (e₂ .2) (e₃ .0) (e₃ .2) e₄))))))))))))))))))))))))))))))))))))))))))))))))))))
+        keep ! (2 ∷ 0 ∷ 3 ∷ []) $ by ! (exits w u (e ∙ enveloped s d₀ (z₁ .0) (z₂ .0) (z₃ .0) _ _ _ r₆ (λ i. record { buf = e₀ .0 i; pos = e₀ .1 i }) (e₁ .0) (e₁ .1) (e₂ .ended) (e₂ .reader) (e₃ .ended) (e₃ .reader) e₄))))))))))))))))))))))))))))))))))))))))))))))))))))
 
   read-envelope-meets : (𝓣 : Tables 𝓤 H) → Triple 𝓤 (𝓣 .C #new) (New 𝓤 H A at-mem run) → Triple 𝓤 (𝓣 .C #varint) (Varint 𝓤 H A at-mem run) → Triple 𝓤 (𝓣 .C #bytes) (Bytes 𝓤 H A at-mem run)
       → Triple 𝓤 (𝓣 .C #end) (End 𝓤 H A at-mem run) → Triple 𝓤 (𝓣 .C #envelope-of) (EnvelopeOf 𝓤 H A at-mem run) → Meets 𝓤 H A self.signature (WpFn 𝓤 H (𝓣 .C) (𝓣 .Λ) code.function) (self.spec 𝓤 H A at-mem run)

@@ -22,7 +22,7 @@ same-length c = search needs
 
 -- src/rows.rt:58:1
 returns : tie.Need-returns
-returns c = record { answer = c .op-told .ensures (c .before .before .before .before .before .before .before .args .batch .now) ∙ ap opTold (c .before .before .before .read-op .ensures .0); area = c .before .before .before .read-op .ensures .1 }
+returns c = record { answer = c .op-told .ensures (c .before .before .before .before .before .before .before .args .batch .now) ∙ ap opTold (c .before .before .before .read-op .ensures .row); area = c .before .before .before .read-op .ensures .area }
 
 pub cuwelfra-read-op-spec : {M : Type 1} → statement M
 cuwelfra-read-op-spec = tie.close (tie.spec read-op-requires op-told-requires same-length returns)

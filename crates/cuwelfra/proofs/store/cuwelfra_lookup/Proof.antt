@@ -60,11 +60,11 @@ tell-requires c κs = search needs
 
 -- src/store.rt:207:1
 returns : tie.Need-returns
-returns c = found-logged _ _ _ _ (c .before .before .before .before .before .find .ensures) _ _ _ (c .before .before .before .place .given .1) (c .before .payload .ensures) refl (c .found .ensures)
+returns c = found-logged _ _ _ _ (c .before .before .before .before .before .find .ensures) _ _ _ (c .before .before .before .place .given .1) (c .before .payload .ensures .0) refl (c .found .ensures)
 
 -- src/store.rt:207:1
 returns-2 : tie.Need-returns-2
-returns-2 c = found-held _ _ _ _ (c .before .before .before .before .before .find .ensures) _ _ _ (c .before .before .before .place2 .given .1) (c .before .payload2 .ensures) refl (c .found2 .ensures)
+returns-2 c = found-held _ _ _ _ (c .before .before .before .before .before .find .ensures) _ _ _ (c .before .before .before .place2 .given .1) (c .before .payload2 .ensures .0) refl (c .found2 .ensures)
 
 -- src/store.rt:207:1
 returns-3 : tie.Need-returns-3

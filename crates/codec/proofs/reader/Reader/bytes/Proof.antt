@@ -27,7 +27,7 @@ use denote.Laws.{Is, shows}
 use denote.Memory.{mem, cellAt}
 use denote.Plain.{uint-makes, uint-lawful, uint-vals, uint-tells}
 use denote.Builtin.{u8, u64, usize}
-use denote.Ref.{RefT, MutRef, now, ptr-vals, mut-tells}
+use denote.Ref.{RefT, MutRef, now, ptr, ptr-vals, mut-tells}
 use denote.Signature.Struct.{makes}
 use denote.Slice.{ShrSlice, shr-slice-lawful}
 use denote.Steps.{only, opens, closes, owned, peeks, heard, nothing}
@@ -44,7 +44,7 @@ use denote.Triple.Walked.{says, Stays, stay-ref, stay-none, walkOf, goes-ref, go
 use denote.Exit.{yes}
 use Rattle.error.specs.Answer.{Got}
 use Rattle.codec.specs.Reading.{Part, getBytes, gotPart}
-use Rattle.codec.specs.Readers.{past, partIn, readBy, moved}
+use Rattle.codec.specs.Readers.{past, partIn, partPlace, readBy, moved, ReadsBytes}
 use Rattle.codec.specs.declared.PartRead.{PartRead}
 use Rattle.codec.specs.declared.reader.Reader.{Reader}
 use Rattle.codec.specs.declared.reader.BytesRead.{BytesRead}
@@ -130,7 +130,7 @@ module _ {M : Type 1} (𝓤 : URA M) (H : Heap 𝓤) (A : Atoms 𝓤) (W : Given
     goes-part p u e = qed W ((‵ (flft κ′ q′) ⊛ ‵ ftrue) ∷ ‵ (owns (ShrSlice (named 0) κ′ u8 ∷ P.the-row ∷ []) (d .buf, (p, tt)) (slice d ∷ [], (u ∷ [], tt))) ∷ []) ∵ says ! (within-bytes (now (d .buf)) (d .pos) m p e) $ frame ! $ done !
 
     abbrev Cut : PartRead → RefT (List ℕ) → Type 0
-    Cut p s = now s ≡ partIn (now (d .buf)) (gotPart p)
+    Cut p s = (now s ≡ partIn (now (d .buf)) (gotPart p)) × (ptr s ≡ partPlace (ptr (d .buf)) (gotPart p))
 
     said-part : (p : PartRead) (s : RefT (List ℕ)) → ent 𝓤 (ensured 𝓤 H A part-of.ended (part-of.clauses 𝓤 H A at-mem run) (κ′, tt) (d .buf, (p, tt)) tt s) (fact 𝓤 (Cut p s))
     said-part p s = exE 𝓤 _ (λ ws. snd∗ 𝓤 (sem 𝓤 H A (lasts part-of.ended (κ′, tt) (d .buf, (p, tt)) ws)) (fact 𝓤 (Cut p s)))
@@ -161,10 +161,7 @@ module _ {M : Type 1} (𝓤 : URA M) (H : Heap 𝓤) (A : Atoms 𝓤) (W : Given
     abbrev had : RefT (List ℕ) → PartRead → List Val × (List Val × Unit {0}) → Fml
     had s p vss = fsep (ShrSlice (named 1) κ′ u8 .own s (vss .0)) (fsep (P.the-row .own p (vss .1 .0)) ftrue)
 
-    abbrev Said : BytesRead → Reader → Type 0
-    Said r d′ = (gotPart (r .read) ≡ G) × (now (r .bytes) ≡ partIn (now (d .buf)) G) × (d′ ≡ moved d G)
-
-    exits : (s : RefT (List ℕ)) (p : PartRead) (v u : Val) (n : ℕ) → Is P.the-row p (u ∷ []) → Said (made s p) (at d n)
+    exits : (s : RefT (List ℕ)) (p : PartRead) (v u : Val) (n : ℕ) → Is P.the-row p (u ∷ []) → ReadsBytes m d (made s p) (at d n)
         → ent 𝓤 (⋆ 𝓤 H A (‵ (fobs γ (B κ′ .coded .code (at d n))) ∷ ‵ (fbor κ (Body (mem (B κ′)) b o γ)) ∷ ‵ (flft κ q) ∷ ‵ (ShrSlice (named 0) κ′ u8 .own s (v ∷ [])) ∷ (‵ (flft κ′ q′) ⊛ ‵ ftrue) ∷ [])) (Post (mach v u))
     exits s p v u n is e =
         qed W (‵ (fobs γ (B κ′ .coded .code (at d n))) ∷ ‵ (fbor κ (Body (mem (B κ′)) b o γ)) ∷ ‵ (flft κ q) ∷ ‵ (ShrSlice (named 0) κ′ u8 .own s (v ∷ [])) ∷ (‵ (flft κ′ q′) ⊛ ‵ ftrue) ∷ []) ∵
@@ -218,7 +215,7 @@ module _ {M : Type 1} (𝓤 : URA M) (H : Heap 𝓤) (A : Atoms 𝓤) (W : Given
         move ! (0 ∷ 1 ∷ 4 ∷ 5 ∷ 6 ∷ []) $ closes ! tt (B κ′) (at d n) (T′.lowered (at d n) ∷ []) b o $
         returns ! (look ! 20 refl) $ forget ! 6 refl $ forget ! 8 refl $ forget ! 10 refl $ forget ! 12 refl $ forget ! 14 refl $ forget ! 16 refl $ forget ! 18 refl $ forget ! 20 refl $
         move ! (20 ∷ 21 ∷ []) $ free1 ! $ move ! (18 ∷ 19 ∷ []) $ free1 ! $ move ! (16 ∷ 17 ∷ []) $ free1 ! $ move ! (14 ∷ 15 ∷ []) $ free1 ! $ move ! (12 ∷ 13 ∷ []) $ free1 ! $ move ! (10 ∷ 11 ∷ []) $ free1 ! $ move ! (8 ∷ 9 ∷ []) $ free1 ! $ move ! (6 ∷ 7 ∷ []) $ free1 ! $ free0 ! $
-        keep ! (0 ∷ 1 ∷ 2 ∷ 3 ∷ 4 ∷ []) $ by ! (exits s p v u n is′ (e, cut ∙ ap (partIn (now (d .buf))) e, (λ i. at d ((e′ ∙ ap (past (d .pos)) e) i))))))))))))))))))))))))))
+        keep ! (0 ∷ 1 ∷ 2 ∷ 3 ∷ 4 ∷ []) $ by ! (exits s p v u n is′ (record { ended = e; bytes = cut .0 ∙ ap (partIn (now (d .buf))) e; place = cut .1 ∙ ap (partPlace (ptr (d .buf))) e; reader = λ i. at d ((e′ ∙ ap (past (d .pos)) e) i) }))))))))))))))))))))))))
 
   bytes-meets : (𝓣 : Tables 𝓤 H) → Triple 𝓤 (𝓣 .C #get-bytes) (GetBytes 𝓤 H A at-mem run) → Triple 𝓤 (𝓣 .C #part-of) (PartOf 𝓤 H A at-mem run) → Triple 𝓤 (𝓣 .C #past-part) (PastPart 𝓤 H A at-mem run)
       → Meets 𝓤 H A bytes.signature (WpFn 𝓤 H (𝓣 .C) (𝓣 .Λ) code.function) (bytes.spec 𝓤 H A at-mem run)
