@@ -3,7 +3,6 @@
 use cuwelfra::{Limits, Refusal, Report, Store};
 
 use crate::desk::{pack, Desk};
-use crate::table;
 use crate::text::Offer;
 
 /// What a batch call told.
@@ -45,23 +44,6 @@ fn call(store: &mut Store, offer: &Offer, time_ms: u64) -> Result<Report, Refusa
     let batch = pack(&offer.rows)?;
     let time_ms = offer.time_ms.unwrap_or(time_ms);
     store.apply_remote_ops(&Limits::default(), time_ms, batch.bytes())
-}
-
-/// The report of every call, then what was refused and what to do about it.
-pub fn reports(told: &[Told]) -> String {
-    let mut text = format!("Reports:\n\n{}", table::calls(told));
-    let refused = told
-        .iter()
-        .filter_map(|told| Some((&told.batch, told.answer.as_ref().err()?)));
-    for (i, (batch, refusal)) in refused.enumerate() {
-        if i == 0 {
-            text += "\nRefused, with nothing of the batch taken:\n\n";
-        }
-        text += &format!("{batch}: {refusal}\n");
-        text += &table::indented(refusal.meaning());
-        text += &table::indented(refusal.advice());
-    }
-    text
 }
 
 /// Whether no call was refused.

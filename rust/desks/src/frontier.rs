@@ -30,7 +30,7 @@ pub fn frontier(words: &[OsString]) -> Result<VectorClock, Error> {
 }
 
 fn clock(word: &OsString) -> Result<VectorClock, Error> {
-    let pairs = word.to_str().and_then(|word| text::pairs(word).ok());
+    let pairs = word.to_str().and_then(|word| text::parse_pairs(word).ok());
     let Some(pairs) = pairs else {
         return Ok(store::load(Path::new(word))?.clock()?);
     };

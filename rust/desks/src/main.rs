@@ -13,11 +13,13 @@
     )
 )]
 
+mod answer;
 mod calls;
 mod commands;
 mod desk;
 mod error;
 mod frontier;
+mod show;
 mod store;
 mod table;
 #[cfg(test)]
@@ -29,23 +31,12 @@ use std::env;
 use std::io::{self, Write};
 use std::process::ExitCode;
 
-/// What a command prints, and whether all went well: nothing was refused, nothing differs.
-pub struct Answer {
-    pub text: String,
-    pub well: bool,
-}
-
-impl Answer {
-    /// All went well.
-    pub fn well(text: String) -> Self {
-        Self { text, well: true }
-    }
-}
+use answer::Answer;
 
 fn main() -> ExitCode {
     match commands::run(env::args_os().skip(1).collect()) {
         Ok(answer) => print(&answer),
-        Err(error) => failed(2, &error.to_string()),
+        Err(error) => failed(2, &error.told()),
     }
 }
 

@@ -1,4 +1,4 @@
-//! Stores in files, and what they show.
+//! Stores in files, and what they have.
 
 use std::collections::BTreeMap;
 use std::path::{Path, PathBuf};
@@ -6,7 +6,6 @@ use std::path::{Path, PathBuf};
 use cuwelfra::{ActorId, FileError, Refusal, Row, Store, Update, VectorClock, MAX_LOGGED};
 
 use crate::error::Error;
-use crate::table;
 
 /// Reads a store's file.
 pub fn load(file: &Path) -> Result<Store, Error> {
@@ -92,27 +91,6 @@ impl View {
             held: held.collect::<Result<_, Refusal>>()?,
             clock: clock.entries()?,
         })
-    }
-
-    /// The logged rows as a table.
-    pub fn log(&self) -> String {
-        match self.log.is_empty() {
-            true => "Log: no row\n".to_owned(),
-            false => format!("Log:\n\n{}", table::log(&self.log)),
-        }
-    }
-
-    /// The held rows as a table, with what each waits for.
-    pub fn held(&self) -> String {
-        match self.held.is_empty() {
-            true => "Held: no row\n".to_owned(),
-            false => format!("Held:\n\n{}", table::held(&self.held)),
-        }
-    }
-
-    /// The clock on a line.
-    pub fn clock(&self) -> String {
-        format!("Clock: {}\n", table::pairs(&self.clock))
     }
 }
 

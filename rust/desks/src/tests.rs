@@ -4,10 +4,10 @@ use std::ffi::OsString;
 use std::fs;
 use std::path::PathBuf;
 
+use crate::answer::Answer;
 use crate::commands::run;
 use crate::desk::Desk;
 use crate::store::load;
-use crate::Answer;
 
 const ROOT: &str = concat!(env!("CARGO_MANIFEST_DIR"), "/../../");
 const DESK_A: &str = concat!(env!("CARGO_MANIFEST_DIR"), "/../../examples/desk-a.txt");
@@ -50,7 +50,7 @@ impl Folder {
                 text: bare(answer.text),
                 ..answer
             }),
-            Err(error) => Err(bare(error.to_string())),
+            Err(error) => Err(bare(error.told())),
         }
     }
 

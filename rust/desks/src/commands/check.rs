@@ -4,11 +4,12 @@ use std::path::Path;
 
 use cuwelfra::MAX_HELD;
 
+use crate::answer::Answer;
 use crate::error::Error;
+use crate::show::stamp;
 use crate::store::load;
-use crate::table::{pairs, stamp};
+use crate::text::pairs;
 use crate::words::Words;
-use crate::Answer;
 
 pub fn run(words: Words) -> Result<Answer, Error> {
     let [file] = words.exactly()?;

@@ -5,12 +5,13 @@ use std::path::PathBuf;
 
 use cuwelfra::Timestamp;
 
+use crate::answer::Answer;
 use crate::error::Error;
 use crate::frontier::frontier;
+use crate::show;
 use crate::store::Change;
-use crate::table;
+use crate::table::counted;
 use crate::words::{stamp, Words};
-use crate::Answer;
 
 pub fn run(mut words: Words) -> Result<Answer, Error> {
     // The word behind --cutoff is the first of the frontier.
@@ -40,10 +41,10 @@ fn compact(mut change: Change, cutoff: &Timestamp) -> Result<Answer, Error> {
     let left = change.store.log_len()?;
     let file = change.file.display().to_string();
     change.save()?;
-    let cutoff = table::stamp(*cutoff);
+    let cutoff = show::stamp(*cutoff);
     Ok(Answer::well(format!(
         "{file}: {} at or below {cutoff} removed, {left} left; written.\n\
          Where such rows may still come, raise the floor, and they are logged as stale: ./run floor {file} {cutoff}\n",
-        table::counted(removed, "row")
+        counted(removed, "row")
     )))
 }

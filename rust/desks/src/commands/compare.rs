@@ -2,14 +2,15 @@
 
 use cuwelfra::{Refusal, Row, Store, MAX_LOGGED};
 
+use crate::answer::Answer;
 use crate::calls::{self, Told};
 use crate::desk::Desk;
 use crate::error::Error;
+use crate::show;
 use crate::store::View;
-use crate::table::{counted, pairs};
-use crate::text;
+use crate::table::counted;
+use crate::text::{self, pairs};
 use crate::words::Words;
-use crate::Answer;
 
 pub fn run(words: Words) -> Result<Answer, Error> {
     let usage = words.usage();
@@ -62,10 +63,10 @@ fn section<'a>(desks: impl Iterator<Item = &'a Desk>, joined: &Joined) -> String
     format!(
         "== {}\n\n{}\n{}\n{}\n{}\n",
         names.join(", then "),
-        calls::reports(&joined.told),
-        view.log(),
-        view.held(),
-        view.clock()
+        show::reports(&joined.told),
+        show::log(view),
+        show::held(view),
+        show::clock(view)
     )
 }
 

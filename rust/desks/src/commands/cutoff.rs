@@ -1,11 +1,12 @@
 //! `cutoff STORE FRONTIER...`: the latest stamp that is safe to compact to.
 
+use crate::answer::Answer;
 use crate::error::Error;
 use crate::frontier::frontier;
+use crate::show::stamp;
 use crate::store::load;
-use crate::table::{pairs, stamp};
+use crate::text::pairs;
 use crate::words::Words;
-use crate::Answer;
 
 pub fn run(words: Words) -> Result<Answer, Error> {
     let (file, clocks) = words.one_and_more()?;

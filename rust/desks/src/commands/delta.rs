@@ -4,13 +4,14 @@ use std::path::{Path, PathBuf};
 
 use cuwelfra::{BatchRow, Row, MAX_BATCH};
 
+use crate::answer::Answer;
 use crate::desk::write_new;
 use crate::error::Error;
+use crate::show;
 use crate::store::load;
-use crate::table::{self, counted};
+use crate::table::counted;
 use crate::text::{self, Offer};
 use crate::words::Words;
-use crate::Answer;
 
 pub fn run(mut words: Words) -> Result<Answer, Error> {
     let max_rows = words.number("--rows", MAX_BATCH as u64)?;
@@ -27,7 +28,7 @@ pub fn run(mut words: Words) -> Result<Answer, Error> {
     if rows > 0 {
         let lens: Vec<String> = chunks.iter().map(|chunk| chunk.len().to_string()).collect();
         text += &format!("Rows of each chunk: {}\n\n", lens.join(", "));
-        text += &table::delta(&chunks).to_string();
+        text += &show::delta(&chunks).to_string();
     }
     let whole = store.can_serve(&clock)?;
     if !whole {

@@ -1,12 +1,12 @@
 //! `./run` alone: joins desks into a store made anew, shows what came of it, and compares with the reverse order.
 
-use crate::calls;
+use crate::answer::Answer;
 use crate::commands::compare::{both_orders, differences, verdict};
 use crate::desk::{make_folder, Desk};
 use crate::error::Error;
-use crate::table::pairs;
+use crate::show;
+use crate::text::pairs;
 use crate::words::Words;
-use crate::Answer;
 
 pub fn run(words: Words) -> Result<Answer, Error> {
     let (file, files) = words.one_and_more()?;
@@ -33,10 +33,10 @@ pub fn run(words: Words) -> Result<Answer, Error> {
          ./run explain 13\n    \
          ./run --help\n",
         names.join(", then "),
-        calls::reports(&joined.told),
-        view.log(),
-        view.held(),
-        view.clock(),
+        show::reports(&joined.told),
+        show::log(view),
+        show::held(view),
+        show::clock(view),
         verdict(&differences, view),
         pairs(&view.clock),
     );

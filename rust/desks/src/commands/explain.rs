@@ -2,11 +2,11 @@
 
 use cuwelfra::{Explained, Refusal};
 
+use crate::answer::Answer;
 use crate::error::Error;
 use crate::table::indented;
 use crate::text::number;
 use crate::words::Words;
-use crate::Answer;
 
 pub fn run(words: Words) -> Result<Answer, Error> {
     let usage = words.usage();

@@ -4,11 +4,11 @@ use std::path::Path;
 
 use cuwelfra::Store;
 
+use crate::answer::Answer;
 use crate::error::Error;
+use crate::show;
 use crate::store::{load, Change};
-use crate::table;
 use crate::words::{stamp, Words};
-use crate::Answer;
 
 pub fn run(words: Words) -> Result<Answer, Error> {
     let usage = words.usage();
@@ -30,7 +30,7 @@ fn shown(store: &Store) -> Result<Answer, Error> {
     Ok(Answer::well(match store.floor()? {
         Some(floor) => format!(
             "Floor: {}; rows with stamps at or below it are logged as stale.\n",
-            table::stamp(floor)
+            show::stamp(floor)
         ),
         None => "No floor.\n".to_owned(),
     }))

@@ -1,12 +1,13 @@
 //! `join STORE FILE...`: offers the files' batches to the store.
 
+use crate::answer::Answer;
 use crate::calls;
 use crate::desk::Desk;
 use crate::error::Error;
+use crate::show;
 use crate::store::Change;
 use crate::table::counted;
 use crate::words::Words;
-use crate::Answer;
 
 pub fn run(words: Words) -> Result<Answer, Error> {
     let (file, files) = words.one_and_more()?;
@@ -25,7 +26,7 @@ pub fn run(words: Words) -> Result<Answer, Error> {
     };
     let text = format!(
         "{}\n{shown}: {} logged, {} of them now; {held} held; {written}.\n",
-        calls::reports(&told),
+        show::reports(&told),
         counted(logged, "row"),
         logged - before
     );

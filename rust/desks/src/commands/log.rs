@@ -2,13 +2,18 @@
 
 use std::path::Path;
 
+use crate::answer::Answer;
 use crate::error::Error;
+use crate::show;
 use crate::store::{load, View};
 use crate::words::Words;
-use crate::Answer;
 
 pub fn run(words: Words) -> Result<Answer, Error> {
     let [file] = words.exactly()?;
     let view = View::of(&load(Path::new(&file))?)?;
-    Ok(Answer::well(format!("{}\n{}", view.log(), view.clock())))
+    Ok(Answer::well(format!(
+        "{}\n{}",
+        show::log(&view),
+        show::clock(&view)
+    )))
 }

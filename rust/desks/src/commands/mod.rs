@@ -16,9 +16,9 @@ mod unpack;
 
 use std::ffi::OsString;
 
+use crate::answer::Answer;
 use crate::error::Error;
 use crate::words::Words;
-use crate::Answer;
 
 const HELP: &str = include_str!("../../help.txt");
 

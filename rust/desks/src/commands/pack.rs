@@ -4,11 +4,11 @@ use std::path::{Path, PathBuf};
 
 use cuwelfra::Batch;
 
+use crate::answer::Answer;
 use crate::desk::{self, make_folder, write_new, Desk};
 use crate::error::Error;
 use crate::table::counted;
 use crate::words::Words;
-use crate::Answer;
 
 pub fn run(words: Words) -> Result<Answer, Error> {
     let [file, out] = words.exactly()?;

@@ -2,11 +2,11 @@
 
 use std::path::Path;
 
+use crate::answer::Answer;
 use crate::desk::{read, unpack};
 use crate::error::Error;
 use crate::text::{self, Offer};
 use crate::words::Words;
-use crate::Answer;
 
 pub fn run(words: Words) -> Result<Answer, Error> {
     let usage = words.usage();

@@ -20,18 +20,13 @@
 //! line with only a comment does not, and a batch without rows is left out. `time MS` stands before a batch's rows and
 //! is the time of its call and of the calls after it in this file.
 
+mod fault;
+mod offer;
 mod read;
 mod words;
 mod write;
 
-use cuwelfra::BatchRow;
-
-pub use read::{number, pairs, parse, stamp, Fault, Unreadable};
-pub use write::{answer, row, unprinted, write};
-
-/// The rows of a batch call, and its time where the text says one.
-#[derive(Clone, Debug, PartialEq, Eq)]
-pub struct Offer {
-    pub time_ms: Option<u64>,
-    pub rows: Vec<BatchRow>,
-}
+pub use fault::Unreadable;
+pub use offer::Offer;
+pub use read::{number, parse, parse_pairs, stamp};
+pub use write::{answer, id, pairs, row, unprinted, write};

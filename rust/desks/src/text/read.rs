@@ -1,79 +1,12 @@
 //! Text into batches.
 
-use std::fmt;
 use std::str::{self, FromStr};
 
 use cuwelfra::{ActorId, ApplyError, BatchRow, Row, Timestamp};
 
+use super::fault::{Fault, Unreadable};
+use super::offer::Offer;
 use super::words::{bytes, hex, words};
-use super::Offer;
-
-/// Where a text does not read, and why.
-#[derive(Clone, Debug, PartialEq, Eq)]
-pub struct Unreadable {
-    pub line: usize,
-    pub fault: Fault,
-}
-
-/// What is wrong with a line.
-#[derive(Clone, Debug, PartialEq, Eq)]
-pub enum Fault {
-    NotText,
-    OpenQuote,
-    Escape(String),
-    Words(usize),
-    Number {
-        what: &'static str,
-        bits: usize,
-        word: String,
-    },
-    Dependency(String),
-    Answer(String),
-    Signature(String),
-    Twice(String),
-    LateTime,
-}
-
-impl fmt::Display for Unreadable {
-    fn fmt(&self, f: &mut fmt::Formatter<'_>) -> fmt::Result {
-        write!(f, "line {}: {}", self.line, self.fault)
-    }
-}
-
-impl fmt::Display for Fault {
-    fn fmt(&self, f: &mut fmt::Formatter<'_>) -> fmt::Result {
-        match self {
-            Self::NotText => write!(f, "not UTF-8 text"),
-            Self::OpenQuote => write!(f, "a double quote is not closed"),
-            Self::Escape(part) => write!(
-                f,
-                "`\\{part}` does not begin with \\\", \\\\ or \\x and two hexadecimal digits"
-            ),
-            Self::Words(count) => write!(
-                f,
-                "{count} words; a row has 6 to 9: WALL COUNTER AUTHOR SEQUENCE DEPENDENCIES PAYLOAD \
-                 [ANSWER] [unverified] [signature/HEX]"
-            ),
-            Self::Number { what, bits, word } => {
-                write!(f, "`{word}` is no {what}, which is a whole number below 2^{bits}")
-            }
-            Self::Dependency(word) => write!(
-                f,
-                "`{word}` is no dependency; write AUTHOR:NUMBER, with commas between, or - for none"
-            ),
-            Self::Answer(word) => write!(
-                f,
-                "`{word}` is no answer; there are fits, malformed, unknown/TAG, denied, invalid/NUMBER, \
-                 and beside them unverified and signature/HEX"
-            ),
-            Self::Signature(digits) => {
-                write!(f, "`{digits}` is no signature, which is two hexadecimal digits a byte")
-            }
-            Self::Twice(word) => write!(f, "`{word}` says again what a word before it says"),
-            Self::LateTime => write!(f, "`time` stands before the rows of a batch"),
-        }
-    }
-}
 
 /// The batches of a text.
 pub fn parse(text: &[u8]) -> Result<Vec<Offer>, Unreadable> {
@@ -163,11 +96,11 @@ pub fn stamp(wall: &str, counter: &str, author: &str) -> Result<Timestamp, Fault
 }
 
 fn dependencies(word: &str) -> Result<Vec<(ActorId, u64)>, Fault> {
-    pairs(word).map_err(|part| Fault::Dependency(part.to_owned()))
+    parse_pairs(word).map_err(|part| Fault::Dependency(part.to_owned()))
 }
 
 /// `AUTHOR:NUMBER` with commas between, or `-` for none; else the part that is none.
-pub fn pairs(word: &str) -> Result<Vec<(ActorId, u64)>, &str> {
+pub fn parse_pairs(word: &str) -> Result<Vec<(ActorId, u64)>, &str> {
     if word == "-" {
         return Ok(Vec::new());
     }

@@ -1,6 +1,6 @@
 //! The words of a line, and the bytes of a payload.
 
-use super::Fault;
+use super::fault::Fault;
 
 /// The words of a line, without its comment. A quoted text is one word and keeps its quotes.
 pub fn words(line: &str) -> Result<Vec<&str>, Fault> {

@@ -1,9 +1,9 @@
 //! Batches into text.
 
-use cuwelfra::{ApplyError, BatchRow, Row};
+use cuwelfra::{ActorId, ApplyError, BatchRow, Row};
 
-use super::Offer;
-use crate::table::pairs;
+use super::offer::Offer;
+use crate::table::or_dash;
 
 /// The text of batches, which reads as them: every row, and every time that is not the one before it. A batch without
 /// rows is left out.
@@ -52,6 +52,20 @@ pub fn row(row: &Row) -> String {
         line.extend(row.signature.iter().map(|byte| format!("{byte:02x}")));
     }
     line
+}
+
+/// A row's author and sequence.
+pub fn id(author: ActorId, seq: u64) -> String {
+    format!("{}:{seq}", author.0)
+}
+
+/// Authors and their numbers in one word.
+pub fn pairs(pairs: &[(ActorId, u64)]) -> String {
+    let pairs: Vec<String> = pairs
+        .iter()
+        .map(|(author, number)| id(*author, *number))
+        .collect();
+    or_dash(pairs.join(","))
 }
 
 /// The answer of policy and state, as it is written behind a payload.
