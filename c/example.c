@@ -64,19 +64,50 @@ static void check_told(int line, const char *what, cuwelfra_told is, uint64_t nu
     checks++;
     if (is.number != number || is.first != first || is.second != second) {
         failures++;
-        printf("line %d: %s is %" PRIu64 " (%" PRIu64 ", %" PRIu64 ") and not %" PRIu64 " (%" PRIu64 ", %" PRIu64 ")\n",
-               line, what, is.number, is.first, is.second, number, first, second);
+        printf("line %d: %s is %s (%" PRIu64 ", %" PRIu64 ") and not %s (%" PRIu64 ", %" PRIu64 ")\n", line, what,
+               cuwelfra_word(is.number), is.first, is.second, cuwelfra_word(number), first, second);
     }
 }
 
-/* A number; the first bytes of an area; all its bytes from one on; an accepted call; a refusal with its two values. */
+static void check_word(int line, uint64_t number, const char *wanted)
+{
+    const char *is = cuwelfra_word(number);
+    checks++;
+    if (strcmp(is, wanted) != 0) {
+        failures++;
+        printf("line %d: the word of %" PRIu64 " is %s and not %s\n", line, number, is, wanted);
+    }
+}
+
+/* A number; the first bytes of an area; all its bytes from one on; an accepted call; a refusal with its two values; a
+   refusal's word. */
 #define IS(is, wanted) check_number(__LINE__, #is, is, wanted)
 #define STARTS(is, wanted) check_bytes(__LINE__, #is, is, sizeof(wanted), wanted, 1)
 #define ALL_FROM(is, at, wanted) check_all(__LINE__, #is, (is) + (at), sizeof(is) - (at), wanted)
 #define ACCEPTED(told) check_told(__LINE__, #told, told, 0, 0, 0)
-#define REFUSED(told, number, first, second) check_told(__LINE__, #told, told, number, first, second)
+#define REFUSED(told, name, first, second) \
+    check_told(__LINE__, #told, told, CUWELFRA_REFUSED_##name, first, second)
+#define SAYS(number, wanted) check_word(__LINE__, number, wanted)
 /* A hybrid clock, or an answer that brings one, at wall/counter. */
 #define AT(clock, wall, counter) (IS((clock).last_wall, wall), IS((clock).last_counter, counter))
+
+/* ---- Versions and names */
+
+static void versions(void)
+{
+    IS(cuwelfra_abi(), CUWELFRA_ABI);
+    IS(cuwelfra_abi_1(), CUWELFRA_ABI);
+    IS(CUWELFRA_ABI_FITS(), 1);
+}
+
+static void words(void)
+{
+    SAYS(0, "accepted");
+    SAYS(CUWELFRA_REFUSED_UNSOUND_STORE, "unsound store");
+    SAYS(CUWELFRA_REFUSED_HELD_BYTES, "held bytes");
+    SAYS(CUWELFRA_REFUSED_TRAILING, "trailing");
+    SAYS(UINT64_MAX, "unknown");
+}
 
 /* ---- Bytes: varints, parts with their length, envelopes */
 
@@ -106,18 +137,18 @@ static void varints(void)
     STARTS(out, greatest);
     IS(cuwelfra_varint_len(UINT64_MAX), 10);
     IS(cuwelfra_get_varint(out, sizeof out, 0).value, UINT64_MAX);
-    REFUSED(cuwelfra_get_u32(out, sizeof out, 0).told, 23, 0, 0);
+    REFUSED(cuwelfra_get_u32(out, sizeof out, 0).told, OVERFLOW, 0, 0);
 
     /* The shortest form is written, any form is read. */
     read = cuwelfra_get_varint(overlong, sizeof overlong, 0);
     ACCEPTED(read.told);
     IS(read.value, 0);
     IS(read.next, 2);
-    REFUSED(cuwelfra_get_varint(overlong, 1, 0).told, 22, 0, 0);
+    REFUSED(cuwelfra_get_varint(overlong, 1, 0).told, TRUNCATED, 0, 0);
 
     /* Short of room: nothing is written. */
     memset(out, 0x5A, sizeof out);
-    REFUSED(cuwelfra_put_varint(out, 1, 0, 300).told, 2, 0, 0);
+    REFUSED(cuwelfra_put_varint(out, 1, 0, 300).told, SHORT_AREA, 0, 0);
     ALL_FROM(out, 0, 0x5A);
 }
 
@@ -135,16 +166,16 @@ static void parts(void)
     STARTS(out, wanted);
 
     IS(cuwelfra_get_u8(out, sizeof out, 0).value, 9);
-    REFUSED(cuwelfra_get_u8(out, sizeof out, 6).told, 22, 0, 0);
+    REFUSED(cuwelfra_get_u8(out, sizeof out, 6).told, TRUNCATED, 0, 0);
     IS(cuwelfra_get_count(out, sizeof out, 1, 4).value, 4);
-    REFUSED(cuwelfra_get_count(out, sizeof out, 1, 3).told, 24, 0, 0);
+    REFUSED(cuwelfra_get_count(out, sizeof out, 1, 3).told, TOO_LARGE, 0, 0);
     part = cuwelfra_get_bytes(out, sizeof out, 1, 4);
     ACCEPTED(part.told);
     IS(part.start, 2);
     IS(part.len, 4);
     IS(part.next, 6);
     ACCEPTED(cuwelfra_finish(out, sizeof out, 6));
-    REFUSED(cuwelfra_finish(out, sizeof out, 5), 25, 0, 0);
+    REFUSED(cuwelfra_finish(out, sizeof out, 5), TRAILING, 0, 0);
     IS(cuwelfra_remaining(out, sizeof out, 5), 1);
 }
 
@@ -166,7 +197,7 @@ static void envelopes(void)
     IS(read.sig_at, 6);
     IS(read.sig_len, 2);
     IS(cuwelfra_read_envelope(out, sizeof out).sig_at, 6);
-    REFUSED(cuwelfra_read_envelope(out, 7).told, 24, 0, 0);
+    REFUSED(cuwelfra_read_envelope(out, 7).told, TOO_LARGE, 0, 0);
 }
 
 /* ---- Clocks */
@@ -200,7 +231,7 @@ static void hybrid_clocks(void)
 
     /* Beyond the drift: the refusal carries both walls, and the clock comes back as it was. */
     updated = receive(60011, 10);
-    REFUSED(updated.told, 20, 60011, 10);
+    REFUSED(updated.told, REMOTE_AHEAD, 60011, 10);
     AT(updated, 10, 3);
 
     /* Sending. */
@@ -214,13 +245,13 @@ static void hybrid_clocks(void)
     IS(issued.logical_counter, 4);
     AT(issued, 10, 4);
     issued = cuwelfra_hybrid_now(1, 10, UINT32_MAX, 60000, 9);
-    REFUSED(issued.told, 19, 0, 0);
+    REFUSED(issued.told, COUNTER_OVERFLOW, 0, 0);
     AT(issued, 10, UINT32_MAX);
 
-    /* Stamps compare by wall, counter, author: 0 less, 1 equal, 2 greater. */
-    IS(cuwelfra_timestamp_cmp(10, 3, 1, 10, 4, 1), 0);
-    IS(cuwelfra_timestamp_cmp(10, 3, 1, 10, 3, 1), 1);
-    IS(cuwelfra_timestamp_cmp(10, 3, 2, 10, 3, 1), 2);
+    /* Stamps compare by wall, counter, author. */
+    IS(cuwelfra_timestamp_cmp(10, 3, 1, 10, 4, 1), CUWELFRA_STAMP_LESS);
+    IS(cuwelfra_timestamp_cmp(10, 3, 1, 10, 3, 1), CUWELFRA_STAMP_EQUAL);
+    IS(cuwelfra_timestamp_cmp(10, 3, 2, 10, 3, 1), CUWELFRA_STAMP_GREATER);
 }
 
 static void vector_clocks(void)
@@ -249,29 +280,29 @@ static void vector_clocks(void)
     /* {1: 2} and {2: 1} are concurrent; {1: 2, 2: 1} covers both. */
     number = cuwelfra_clock_compare(one, sizeof one, two, sizeof two);
     ACCEPTED(number.told);
-    IS(number.number, 3);
+    IS(number.number, CUWELFRA_CLOCK_CONCURRENT);
     IS(cuwelfra_clock_dominates(one, sizeof one, two, sizeof two).number, 0);
     ACCEPTED(cuwelfra_clock_merge(one, sizeof one, two, sizeof two));
     IS(cuwelfra_clock_dominates(one, sizeof one, two, sizeof two).number, 1);
-    IS(cuwelfra_clock_compare(one, sizeof one, two, sizeof two).number, 1);
-    IS(cuwelfra_clock_compare(two, sizeof two, one, sizeof one).number, 0);
-    IS(cuwelfra_clock_compare(two, sizeof two, two, sizeof two).number, 2);
+    IS(cuwelfra_clock_compare(one, sizeof one, two, sizeof two).number, CUWELFRA_CLOCK_AFTER);
+    IS(cuwelfra_clock_compare(two, sizeof two, one, sizeof one).number, CUWELFRA_CLOCK_BEFORE);
+    IS(cuwelfra_clock_compare(two, sizeof two, two, sizeof two).number, CUWELFRA_CLOCK_EQUAL);
     IS(cuwelfra_clock_get(one, sizeof one, 1).number, 2);
     IS(cuwelfra_clock_get(one, sizeof one, 9).number, 0);
 
     /* An area one byte short, a number that cannot grow, a count above 32: refused, and the area stays. */
     ACCEPTED(cuwelfra_clock_observe(two, sizeof two, 2, UINT64_MAX));
     memcpy(copy, two, sizeof two);
-    REFUSED(cuwelfra_clock_new(two, sizeof two - 1), 2, 0, 0);
-    REFUSED(cuwelfra_clock_increment(two, sizeof two, 2).told, 19, 0, 0);
+    REFUSED(cuwelfra_clock_new(two, sizeof two - 1), SHORT_AREA, 0, 0);
+    REFUSED(cuwelfra_clock_increment(two, sizeof two, 2).told, COUNTER_OVERFLOW, 0, 0);
     STARTS(two, copy);
     two[7] = 33;
-    REFUSED(cuwelfra_clock_get(two, sizeof two, 2).told, 1, 0, 0);
+    REFUSED(cuwelfra_clock_get(two, sizeof two, 2).told, UNSOUND_STORE, 0, 0);
 }
 
 /* ---- The store and its batches */
 
-enum { LOG_ROWS = 4 };
+enum { LOG_ROWS = 6 };
 
 /* Three areas; all zero is the empty store. */
 typedef struct {
@@ -287,9 +318,9 @@ static const store empty_store;
 static store desk;
 static store before;
 
-/* Room for four held and new rows. */
-static uint8_t scratch[4 * CUWELFRA_SCRATCH_BYTES];
-static uint8_t output[4 * CUWELFRA_LINE_BYTES];
+/* Room for six held and new rows. */
+static uint8_t scratch[6 * CUWELFRA_SCRATCH_BYTES];
+static uint8_t output[6 * CUWELFRA_LINE_BYTES];
 
 /* The settings of a batch call: the largest sizes, an hour of waiting, a minute of drift. */
 typedef struct {
@@ -329,13 +360,16 @@ static const uint8_t first_batch[] = {
     0,                     /* no dependency */
     4, 'H', 'a', 'u', 's', /* payload: its length and its bytes */
     1, 0xC3,               /* signature: its length and its bytes */
-    1, 4, 7,               /* verdict: verified; outcome: invalid; detail: text 7 */
+    1,                     /* verdict: verified */
+    /* outcome and detail, here a text number */
+    CUWELFRA_OUTCOME_INVALID, 7,
     0x88, 0x27, 1, 2,      /* stamp: wall time 5,000, counter 1, author 2 */
     2, 1,                  /* author 2, sequence 1 */
     1, 1, 1,               /* one dependency: author 1, sequence 1 */
     3, 'm', 'o', 't',      /* payload */
     2, 0xC4, 0xC5,         /* signature */
-    1, 0, 0,               /* verified; fits; no detail */
+    1,                     /* verified */
+    CUWELFRA_OUTCOME_FITS, 0,
 };
 
 /* Where the second row of that batch starts. */
@@ -369,7 +403,7 @@ static void apply_first_batch(void)
     static const uint8_t line[] = {
         0, 0, 0, 0, 0, 0, 0, 3, /* author */
         0, 0, 0, 0, 0, 0, 0, 1, /* sequence */
-        5, 7,                   /* fate: rejected, with outcome 4; detail */
+        CUWELFRA_FATE_INVALID, 7,
     };
     cuwelfra_merge_told report;
 
@@ -400,7 +434,7 @@ static void a_row_waits_for_its_cause(void)
     apply_first_batch();
     found = cuwelfra_lookup(AREAS(desk), 2, 1);
     ACCEPTED(found.told);
-    IS(found.place, 2);
+    IS(found.place, CUWELFRA_PLACE_HELD);
     IS(found.slot, 0);
     IS(found.len, 3);
     STARTS(desk.held + 384, payload);
@@ -415,11 +449,11 @@ static void a_row_waits_for_its_cause(void)
 
     /* The log is in the order of its stamps, so author 2's row is the third; the payload stands at 384 in its slot. */
     found = cuwelfra_lookup(AREAS(desk), 2, 1);
-    IS(found.place, 1);
+    IS(found.place, CUWELFRA_PLACE_LOGGED);
     IS(found.slot, 2);
     IS(found.len, 3);
     STARTS(desk.log + found.slot * CUWELFRA_SLOT_BYTES + 384, payload);
-    IS(cuwelfra_lookup(AREAS(desk), 2, 2).place, 0);
+    IS(cuwelfra_lookup(AREAS(desk), 2, 2).place, CUWELFRA_PLACE_ABSENT);
 
     /* What was logged is a duplicate from then on. */
     report = apply(usual, 12000, first_batch, sizeof first_batch);
@@ -443,18 +477,18 @@ static void refused_batches(void)
 
     /* 13 carries author and sequence. */
     report = apply(usual, 10000, conflicting_batch, sizeof conflicting_batch);
-    REFUSED(report.told, 13, 2, 1);
+    REFUSED(report.told, CONFLICT, 2, 1);
     IS(report.held, 0);
     check_unchanged();
 
     /* 14 carries the limit. One held row passes limit 1, two do not. */
     report = apply(one_held, 10000, waiting, sizeof waiting);
-    REFUSED(report.told, 14, 1, 0);
+    REFUSED(report.told, HELD_OVERFLOW, 1, 0);
     check_unchanged();
     desk = empty_store;
     before = desk;
     report = apply(none_held, 10000, waiting, sizeof waiting);
-    REFUSED(report.told, 14, 0, 0);
+    REFUSED(report.told, HELD_OVERFLOW, 0, 0);
     check_unchanged();
     report = apply(one_held, 10000, waiting, sizeof waiting);
     ACCEPTED(report.told);
@@ -463,15 +497,15 @@ static void refused_batches(void)
     /* 4 for a setting or a count above its greatest; 3 for a batch that is cut short; 12 for a verdict of 0. */
     apply_first_batch();
     before = desk;
-    REFUSED(apply(too_many_held, 10000, first_batch, sizeof first_batch).told, 4, 0, 0);
+    REFUSED(apply(too_many_held, 10000, first_batch, sizeof first_batch).told, OVER_CAPACITY, 0, 0);
     check_unchanged();
-    REFUSED(apply(usual, 10000, too_many_rows, sizeof too_many_rows).told, 4, 0, 0);
-    REFUSED(apply(usual, 10000, many_rows, sizeof many_rows).told, 3, 0, 0);
-    REFUSED(apply(usual, 10000, first_batch, sizeof first_batch - 1).told, 3, 0, 0);
+    REFUSED(apply(usual, 10000, too_many_rows, sizeof too_many_rows).told, OVER_CAPACITY, 0, 0);
+    REFUSED(apply(usual, 10000, many_rows, sizeof many_rows).told, UNREADABLE, 0, 0);
+    REFUSED(apply(usual, 10000, first_batch, sizeof first_batch - 1).told, UNREADABLE, 0, 0);
     check_unchanged();
     memcpy(unverified, first_batch, sizeof unverified);
     unverified[SECOND_ROW_AT - 3] = 0;
-    REFUSED(apply(usual, 10000, unverified, sizeof unverified).told, 12, 3, 1);
+    REFUSED(apply(usual, 10000, unverified, sizeof unverified).told, BAD_SIGNATURE, 3, 1);
     check_unchanged();
 }
 
@@ -501,17 +535,17 @@ static void short_areas(void)
     /* 2 for each area that is one byte short. */
     for (i = 1; i < sizeof lens / sizeof *lens; i++) {
         lens[i]--;
-        REFUSED(apply_within(lens), 2, 0, 0);
+        REFUSED(apply_within(lens), SHORT_AREA, 0, 0);
         check_unchanged();
         lens[i]++;
     }
     lens[0] = CUWELFRA_SLOT_BYTES - 1;
-    REFUSED(apply_within(lens), 2, 0, 0);
+    REFUSED(apply_within(lens), SHORT_AREA, 0, 0);
     check_unchanged();
 
     /* 17 where the log has room for two rows and three would be logged. With room for three the batch is accepted. */
     lens[0] = 3 * CUWELFRA_SLOT_BYTES - 1;
-    REFUSED(apply_within(lens), 17, 0, 0);
+    REFUSED(apply_within(lens), LOG_FULL, 0, 0);
     check_unchanged();
     lens[0]++;
     ACCEPTED(apply_within(lens));
@@ -527,7 +561,7 @@ static void times(void)
     /* At time 1,000 with a drift of 60,000: 61,000 passes, 61,001 is 11. */
     desk = empty_store;
     ahead[1]++;
-    REFUSED(apply(usual, 1000, ahead, sizeof ahead).told, 11, 1, 1);
+    REFUSED(apply(usual, 1000, ahead, sizeof ahead).told, AHEAD_OF_TIME, 1, 1);
     ahead[1]--;
     IS(apply(usual, 1000, ahead, sizeof ahead).applied, 1);
 
@@ -544,9 +578,6 @@ static void times(void)
 
 static void floors(void)
 {
-    static const uint8_t stale[] = {
-        0, 0, 0, 0, 0, 0, 0, 1, 0, 0, 0, 0, 0, 0, 0, 1, 1, 0, /* author 1, sequence 1: stale */
-    };
     cuwelfra_stamp_told floor;
 
     desk = empty_store;
@@ -560,8 +591,40 @@ static void floors(void)
     IS(floor.wall_time, 4500);
     IS(floor.logical_counter, 0);
     IS(floor.actor_id, 1);
+    /* A stamp at the floor is stale. */
     IS(apply(usual, 10000, second_batch, sizeof second_batch).stale, 1);
-    STARTS(output, stale);
+}
+
+/* Six rows of author 1, without payloads and signatures: the first at 4,400, the others at 5,000. Each line of output
+   ends in fate and detail. */
+static void fates(void)
+{
+    static const uint8_t batch[] = {
+        6,
+        0xB0, 0x22, 0, 1, 1, 1, 0, 0, 0, 1, CUWELFRA_OUTCOME_INVALID, 7,
+        0x88, 0x27, 0, 1, 1, 2, 0, 0, 0, 1, CUWELFRA_OUTCOME_FITS, 0,
+        0x88, 0x27, 0, 1, 1, 3, 0, 0, 0, 1, CUWELFRA_OUTCOME_MALFORMED_OP, 0,
+        0x88, 0x27, 0, 1, 1, 4, 0, 0, 0, 1, CUWELFRA_OUTCOME_UNKNOWN_OP_TAG, 8,
+        0x88, 0x27, 0, 1, 1, 5, 0, 0, 0, 1, CUWELFRA_OUTCOME_DENIED, 0,
+        0x88, 0x27, 0, 1, 1, 6, 0, 0, 0, 1, CUWELFRA_OUTCOME_INVALID, 9,
+    };
+    static const uint8_t lines[] = {
+        0, 0, 0, 0, 0, 0, 0, 1, 0, 0, 0, 0, 0, 0, 0, 1, CUWELFRA_FATE_STALE, 0,
+        0, 0, 0, 0, 0, 0, 0, 1, 0, 0, 0, 0, 0, 0, 0, 2, CUWELFRA_FATE_APPLIED, 0,
+        0, 0, 0, 0, 0, 0, 0, 1, 0, 0, 0, 0, 0, 0, 0, 3, CUWELFRA_FATE_MALFORMED_OP, 0,
+        0, 0, 0, 0, 0, 0, 0, 1, 0, 0, 0, 0, 0, 0, 0, 4, CUWELFRA_FATE_UNKNOWN_OP_TAG, 8,
+        0, 0, 0, 0, 0, 0, 0, 1, 0, 0, 0, 0, 0, 0, 0, 5, CUWELFRA_FATE_DENIED, 0,
+        0, 0, 0, 0, 0, 0, 0, 1, 0, 0, 0, 0, 0, 0, 0, 6, CUWELFRA_FATE_INVALID, 9,
+    };
+    cuwelfra_merge_told report;
+
+    desk = empty_store;
+    ACCEPTED(cuwelfra_set_floor(AREAS(desk), 4500, 0, 1));
+    report = apply(usual, 10000, batch, sizeof batch);
+    IS(report.stale, 1);
+    IS(report.applied, 1);
+    IS(report.rejected, 4);
+    STARTS(output, lines);
 }
 
 /* ---- Questions to a store, and other changes of it */
@@ -600,8 +663,8 @@ static void questions(void)
 
     /* A store that breaks a rule is refused by every call: here the count of logged rows is wrong. */
     desk.head[7]--;
-    REFUSED(cuwelfra_store_check(AREAS(desk)), 1, 0, 0);
-    REFUSED(cuwelfra_log_len(AREAS(desk)).told, 1, 0, 0);
+    REFUSED(cuwelfra_store_check(AREAS(desk)), UNSOUND_STORE, 0, 0);
+    REFUSED(cuwelfra_log_len(AREAS(desk)).told, UNSOUND_STORE, 0, 0);
 }
 
 static void rows_and_slots(void)
@@ -616,7 +679,7 @@ static void rows_and_slots(void)
     IS(read.verdict, 1);
     IS(slot[47], 0); /* dependencies */
     IS(slot[55], 4); /* payload length */
-    IS(slot[79], 4); /* outcome */
+    IS(slot[79], CUWELFRA_OUTCOME_INVALID);
     IS(slot[87], 7); /* detail */
     IS(slot[384], 'H');
 
@@ -626,8 +689,8 @@ static void rows_and_slots(void)
     IS(written.next, SECOND_ROW_AT - FIRST_ROW_AT - 3);
     check_bytes(__LINE__, "the signed row", wire, (size_t)written.next, first_batch + FIRST_ROW_AT, 1);
     IS(cuwelfra_unsigned_op(slot, sizeof slot, wire, sizeof wire).next, SECOND_ROW_AT - FIRST_ROW_AT - 5);
-    REFUSED(cuwelfra_signed_op(slot, sizeof slot, wire, (size_t)written.next - 1).told, 2, 0, 0);
-    REFUSED(cuwelfra_read_op(first_batch, sizeof first_batch, 1, slot, sizeof slot - 1).told, 2, 0, 0);
+    REFUSED(cuwelfra_signed_op(slot, sizeof slot, wire, (size_t)written.next - 1).told, SHORT_AREA, 0, 0);
+    REFUSED(cuwelfra_read_op(first_batch, sizeof first_batch, 1, slot, sizeof slot - 1).told, SHORT_AREA, 0, 0);
 }
 
 static void inserting_and_restoring(void)
@@ -648,7 +711,8 @@ static void inserting_and_restoring(void)
     STARTS(other.log, desk.log);
     STARTS(other.held, desk.held);
     STARTS(other.head, desk.head);
-    REFUSED(cuwelfra_from_parts(AREAS(other), desk.log, sizeof desk.log, 5, nothing, sizeof nothing), 2, 0, 0);
+    REFUSED(cuwelfra_from_parts(AREAS(other), desk.log, sizeof desk.log, LOG_ROWS + 1, nothing, sizeof nothing),
+            SHORT_AREA, 0, 0);
 }
 
 static void compacting(void)
@@ -700,7 +764,7 @@ static void deltas(void)
     STARTS(out, one_each);
     IS(cuwelfra_chunk_ops(AREAS(desk), peer, sizeof peer, 10, 1000, out, sizeof out).number, 1);
     STARTS(out, both);
-    REFUSED(cuwelfra_calculate_delta(AREAS(desk), peer, sizeof peer, out, sizeof out - 1).told, 2, 0, 0);
+    REFUSED(cuwelfra_calculate_delta(AREAS(desk), peer, sizeof peer, out, sizeof out - 1).told, SHORT_AREA, 0, 0);
 }
 
 static void peers(void)
@@ -711,10 +775,11 @@ static void peers(void)
     uint8_t clock[CUWELFRA_CLOCK_BYTES];
 
     ACCEPTED(cuwelfra_peer_new(peer, sizeof peer, 7));
-    REFUSED(cuwelfra_peer_new(peer, sizeof peer - 1, 7), 2, 0, 0);
+    REFUSED(cuwelfra_peer_new(peer, sizeof peer - 1, 7), SHORT_AREA, 0, 0);
     IS(peer[7], 7);
+    IS(peer[15], CUWELFRA_PEER_CONNECTING);
     ACCEPTED(cuwelfra_peer_connection_started(peer, sizeof peer, 1000));
-    IS(peer[15], 1); /* syncing */
+    IS(peer[15], CUWELFRA_PEER_SYNCING);
 
     /* A ping's nonce is its time. Its pong passes, also when repeated; an unasked one is 21 and changes nothing. */
     ACCEPTED(cuwelfra_peer_record_ping(peer, sizeof peer, 1500));
@@ -724,7 +789,7 @@ static void peers(void)
     IS(peer[624 + 7], 1); /* answered */
     ACCEPTED(cuwelfra_peer_take_pong(peer, sizeof peer, 1500));
     memcpy(copy, peer, sizeof peer);
-    REFUSED(cuwelfra_peer_take_pong(peer, sizeof peer, 1501), 21, 0, 0);
+    REFUSED(cuwelfra_peer_take_pong(peer, sizeof peer, 1501), UNASKED_PONG, 0, 0);
     STARTS(peer, copy);
 
     /* The machine's time was set back: timers ahead of it follow. */
@@ -744,11 +809,20 @@ static void peers(void)
     IS(cuwelfra_peer_pending_ops(peer, sizeof peer, AREAS(desk)).number, 0);
 
     ACCEPTED(cuwelfra_peer_connection_lost(peer, sizeof peer));
-    IS(peer[15], 3); /* disconnected */
+    IS(peer[15], CUWELFRA_PEER_DISCONNECTED);
+
+    /* The server may write the state itself. There is no greater one. */
+    peer[15] = CUWELFRA_PEER_UP_TO_DATE;
+    ACCEPTED(cuwelfra_peer_record_ping(peer, sizeof peer, 2000));
+    IS(peer[15], CUWELFRA_PEER_UP_TO_DATE);
+    peer[15] = CUWELFRA_PEER_DISCONNECTED + 1;
+    REFUSED(cuwelfra_peer_record_ping(peer, sizeof peer, 2000), UNSOUND_STORE, 0, 0);
 }
 
 int main(void)
 {
+    versions();
+    words();
     varints();
     parts();
     envelopes();
@@ -759,6 +833,7 @@ int main(void)
     short_areas();
     times();
     floors();
+    fates();
     questions();
     rows_and_slots();
     inserting_and_restoring();

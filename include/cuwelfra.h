@@ -14,23 +14,122 @@
 extern "C" {
 #endif
 
-/* A refusal. All 0: not refused; else its number and the values that it carries, 0 where there is none.
+/* ---- Versions */
 
-    1 unsound store: a store, slot, clock or peer that breaks a rule of docs/LAYOUT.md
-    2 short area: below the size that the call names
-    3 unreadable: a batch that is cut short or has bytes left over, a number above its bits, authors that do not
-      strictly rise, closing bytes that are none
-    4 over capacity: a size in a batch, or a setting, above its greatest
-    5 zero sequence, 6 foreign stamp, 7 spent counter, 8 payload too large, 9 too many causes, 10 own future,
-      11 ahead of time, 12 bad signature, 13 conflict: first is the row's author, second its sequence
-   14 held overflow, 15 held bytes: first is the limit
-   16 author overflow: first is the limit, second the author
-   17 log full
-   18 authors full: a clock or the watermarks would pass 32 authors
-   19 counter overflow
-   20 remote ahead: first is the remote wall time, second the physical time
-   21 unasked pong
-   22 truncated, 23 overflow, 24 too large, 25 trailing: of varints, parts and envelopes */
+#define CUWELFRA_VERSION "0.1.0"
+#define CUWELFRA_VERSION_MAJOR 0
+#define CUWELFRA_VERSION_MINOR 1
+#define CUWELFRA_VERSION_PATCH 0
+
+/* The number of the interface that this header declares. It is raised at each change of a call's signature, a struct,
+   an area's layout or a size. */
+#define CUWELFRA_ABI 1
+/* 1 where the linked library has this number. A library that has another lacks the name cuwelfra_abi_1, so that a
+   program that says this does not link with it. */
+#define CUWELFRA_ABI_FITS() (cuwelfra_abi_1() == CUWELFRA_ABI && cuwelfra_abi() == CUWELFRA_ABI)
+
+/* The linked library's number. Refuses nothing. */
+uint64_t cuwelfra_abi(void);
+/* The same, by a name that has the number in it. */
+uint64_t cuwelfra_abi_1(void);
+
+/* ---- Numbers by name */
+
+/* The refusals: number, name, word. 5 to 13 carry the row's author and sequence, 14 and 15 the limit, 16 the limit and
+   the author, 20 the remote wall time and the physical time; the others carry nothing. */
+#define CUWELFRA_REFUSALS(X)                                                                                          \
+    /* a store, slot, clock or peer that breaks a rule of docs/LAYOUT.md */                                           \
+    X(1, UNSOUND_STORE, "unsound store")                                                                              \
+    /* below the size that the call names */                                                                          \
+    X(2, SHORT_AREA, "short area")                                                                                    \
+    /* a batch that is cut short or has bytes left over, a number above its bits, authors that do not strictly rise,  \
+       closing bytes that are none */                                                                                 \
+    X(3, UNREADABLE, "unreadable")                                                                                    \
+    /* a size in a batch, or a setting, above its greatest */                                                         \
+    X(4, OVER_CAPACITY, "over capacity")                                                                              \
+    /* 5 to 13 are told of a row of a batch */                                                                        \
+    X(5, ZERO_SEQUENCE, "zero sequence")                                                                              \
+    X(6, FOREIGN_STAMP, "foreign stamp")                                                                              \
+    X(7, SPENT_COUNTER, "spent counter")                                                                              \
+    X(8, PAYLOAD_TOO_LARGE, "payload too large")                                                                      \
+    X(9, TOO_MANY_CAUSES, "too many causes")                                                                          \
+    X(10, OWN_FUTURE, "own future")                                                                                   \
+    X(11, AHEAD_OF_TIME, "ahead of time")                                                                             \
+    X(12, BAD_SIGNATURE, "bad signature")                                                                             \
+    X(13, CONFLICT, "conflict")                                                                                       \
+    /* 14 to 16 are told of the rows that would be held */                                                            \
+    X(14, HELD_OVERFLOW, "held overflow")                                                                             \
+    X(15, HELD_BYTES, "held bytes")                                                                                   \
+    X(16, AUTHOR_OVERFLOW, "author overflow")                                                                         \
+    X(17, LOG_FULL, "log full")                                                                                       \
+    /* a clock or the watermarks would pass 32 authors */                                                             \
+    X(18, AUTHORS_FULL, "authors full")                                                                               \
+    X(19, COUNTER_OVERFLOW, "counter overflow")                                                                       \
+    X(20, REMOTE_AHEAD, "remote ahead")                                                                               \
+    X(21, UNASKED_PONG, "unasked pong")                                                                               \
+    /* 22 to 25 are told of varints, parts and envelopes */                                                           \
+    X(22, TRUNCATED, "truncated")                                                                                     \
+    X(23, OVERFLOW, "overflow")                                                                                       \
+    X(24, TOO_LARGE, "too large")                                                                                     \
+    X(25, TRAILING, "trailing")
+
+#define CUWELFRA_NAMED(number, name, word) CUWELFRA_REFUSED_##name = number,
+/* CUWELFRA_REFUSED_UNSOUND_STORE is 1, and so on. */
+enum { CUWELFRA_REFUSALS(CUWELFRA_NAMED) };
+
+#define CUWELFRA_SAID(number, name, word)                                                                             \
+    case number:                                                                                                      \
+        return word;
+/* The word of a refusal; "accepted" for 0, "unknown" for a number that this header does not have. */
+static inline const char *cuwelfra_word(uint64_t number)
+{
+    switch (number) {
+        CUWELFRA_REFUSALS(CUWELFRA_SAID)
+    case 0:
+        return "accepted";
+    default:
+        return "unknown";
+    }
+}
+
+/* What policy and state say of a batch's row. The detail beside it is the tag of an unknown one, a text number for what
+   is invalid, else 0. */
+enum {
+    CUWELFRA_OUTCOME_FITS = 0,
+    CUWELFRA_OUTCOME_MALFORMED_OP = 1,
+    CUWELFRA_OUTCOME_UNKNOWN_OP_TAG = 2,
+    CUWELFRA_OUTCOME_DENIED = 3,
+    CUWELFRA_OUTCOME_INVALID = 4
+};
+
+/* What became of a logged row. */
+enum {
+    CUWELFRA_FATE_APPLIED = 0,
+    CUWELFRA_FATE_STALE = 1,
+    CUWELFRA_FATE_MALFORMED_OP = 2,
+    CUWELFRA_FATE_UNKNOWN_OP_TAG = 3,
+    CUWELFRA_FATE_DENIED = 4,
+    CUWELFRA_FATE_INVALID = 5
+};
+
+/* How a stamp stands to another, and a vector clock to another. */
+enum { CUWELFRA_STAMP_LESS = 0, CUWELFRA_STAMP_EQUAL = 1, CUWELFRA_STAMP_GREATER = 2 };
+enum { CUWELFRA_CLOCK_BEFORE = 0, CUWELFRA_CLOCK_AFTER = 1, CUWELFRA_CLOCK_EQUAL = 2, CUWELFRA_CLOCK_CONCURRENT = 3 };
+
+/* Where a row stands. */
+enum { CUWELFRA_PLACE_ABSENT = 0, CUWELFRA_PLACE_LOGGED = 1, CUWELFRA_PLACE_HELD = 2 };
+
+/* The state of a peer. */
+enum {
+    CUWELFRA_PEER_CONNECTING = 0,
+    CUWELFRA_PEER_SYNCING = 1,
+    CUWELFRA_PEER_UP_TO_DATE = 2,
+    CUWELFRA_PEER_DISCONNECTED = 3
+};
+
+/* ---- Answers */
+
+/* A refusal. All 0: not refused; else its number and the values that it carries, 0 where there is none. */
 typedef struct {
     uint64_t number;
     uint64_t first;
@@ -108,8 +207,8 @@ typedef struct {
     uint64_t actor_id;
 } cuwelfra_stamp_told;
 
-/* Where a row stands: place 0 absent, 1 logged, 2 held; its slot in that area, and the length of its payload, which
-   stands at 384 in the slot; all 0 when refused or absent. */
+/* Where a row stands: a CUWELFRA_PLACE_, its slot in that area, and the length of its payload, which stands at 384 in
+   the slot; all 0 when refused or absent. */
 typedef struct {
     cuwelfra_told told;
     uint64_t place;
@@ -175,7 +274,7 @@ cuwelfra_envelope_read cuwelfra_read_envelope(const uint8_t *s, size_t s_len);
 
 /* ---- Stamps and the hybrid clock, which goes in by value and comes back moved on */
 
-/* Compares stamps a and b by wall time, counter, author: 0 less, 1 equal, 2 greater. Refuses nothing. */
+/* Compares stamps a and b by wall time, counter, author: CUWELFRA_STAMP_LESS, _EQUAL, _GREATER. Refuses nothing. */
 uint64_t cuwelfra_timestamp_cmp(uint64_t wall_a, uint32_t counter_a, uint64_t actor_a, uint64_t wall_b,
                                 uint32_t counter_b, uint64_t actor_b);
 /* A clock that has issued nothing, with a drift of 60,000 ms. Refuses nothing. */
@@ -212,7 +311,7 @@ cuwelfra_told cuwelfra_clock_merge(uint8_t *clock, size_t clock_len, const uint8
 /* 1 where every number of the other is covered, else 0. 2, 1. */
 cuwelfra_clock_number cuwelfra_clock_dominates(const uint8_t *clock, size_t clock_len, const uint8_t *other,
                                                size_t other_len);
-/* How the clock stands to the other: 0 before, 1 after, 2 equal, 3 concurrent. 2, 1. */
+/* How the clock stands to the other, from CUWELFRA_CLOCK_BEFORE on. 2, 1. */
 cuwelfra_clock_number cuwelfra_clock_compare(const uint8_t *clock, size_t clock_len, const uint8_t *other,
                                              size_t other_len);
 
@@ -302,8 +401,7 @@ cuwelfra_clock_number cuwelfra_chunk_ops(const uint8_t *log, size_t log_len, con
 
 /* ---- Merging
    A batch is a varint count of at most 64, as many rows, and nothing behind. A row is written as cuwelfra_signed_op
-   does; three bytes follow: verdict (0 or 1), outcome (0 fits, 1 malformed, 2 unknown tag, 3 denied, 4 invalid) and
-   detail (the tag for 2, a text number for 4, else 0). */
+   does; three bytes follow: verdict (0 or 1), outcome (a CUWELFRA_OUTCOME_) and detail. */
 
 #define CUWELFRA_MAX_BATCH 64
 /* Bytes of output and of scratch for each held row and each row of the batch. */
@@ -311,9 +409,10 @@ cuwelfra_clock_number cuwelfra_chunk_ops(const uint8_t *log, size_t log_len, con
 #define CUWELFRA_SCRATCH_BYTES 704
 
 /* Applies a batch. The eight numbers are the settings and the time in ms. For each logged row, in logging order, 18
-   bytes go into output: author and sequence, big-endian, fate (0 applied, 1 stale, 2 to 5 rejected with outcomes 1 to
-   4), detail (0 for fates 0 and 1). Later bytes stay. Output has CUWELFRA_LINE_BYTES and scratch CUWELFRA_SCRATCH_BYTES
-   for each row that is held before the call and each row of the batch; scratch is all zero after every call.
+   bytes go into output: author and sequence, big-endian, fate (a CUWELFRA_FATE_; that of a rejected row is its outcome
+   plus 1), detail (0 for applied and stale). Later bytes stay. Output has CUWELFRA_LINE_BYTES and scratch
+   CUWELFRA_SCRATCH_BYTES for each row that is held before the call and each row of the batch; scratch is all zero after
+   every call.
    4 for max_pending above 64, max_deps above 16 or max_payload above 256; 2 for the store, 1; 3 and 4 in reading; 2 for
    output and scratch; 5 to 12 row by row in that order, 13 by row, 14 to 18. */
 cuwelfra_merge_told cuwelfra_apply_remote_ops(uint64_t max_pending, uint64_t max_pending_per_actor,
@@ -329,11 +428,10 @@ cuwelfra_told cuwelfra_set_floor(const uint8_t *log, size_t log_len, const uint8
                                  size_t head_len, uint64_t wall_time, uint32_t logical_counter, uint64_t actor_id);
 
 /* ---- Peers
-   A peer area, in words: id, state (0 connecting, 1 syncing, 2 up to date, 3 disconnected), remote clock (65),
-   last_seen, last_ping, outstanding count and 8 nonces, answered count and 8 nonces, last_hello. Every call refuses
-   with 2 where the area, or a clock area beside it, is shorter; all but cuwelfra_peer_new then with 1 for a state above
-   3, a count above 8 or a clock that breaks its rules. Where nothing else is said, these are its refusals. Times are in
-   ms. */
+   A peer area, in words: id, state, remote clock (65), last_seen, last_ping, outstanding count and 8 nonces, answered
+   count and 8 nonces, last_hello. Every call refuses with 2 where the area, or a clock area beside it, is shorter; all
+   but cuwelfra_peer_new then with 1 for a state above 3, a count above 8 or a clock that breaks its rules. Where nothing
+   else is said, these are its refusals. Times are in ms. */
 
 #define CUWELFRA_PEER_BYTES 704
 

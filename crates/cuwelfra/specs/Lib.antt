@@ -1,3 +1,4 @@
+pub mod Abi
 pub mod Bytes
 pub mod Hybrids
 pub mod Vectors

@@ -1,4 +1,5 @@
 // The static library: every public call as a C function over numbers and byte slices. A slice is a pointer and a length.
+pub mod abi; // the number of this interface
 pub mod batches; // the batch call and the floor
 pub mod bytes; // varints, readers, writers, envelopes
 pub mod changes; // insertion, restoring, compaction

@@ -4,6 +4,7 @@
 
 #![deny(warnings, missing_docs)]
 
+pub mod abi;
 pub mod ffi;
 
 mod clocks;

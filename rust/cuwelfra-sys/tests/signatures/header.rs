@@ -25,6 +25,12 @@ pub fn declarations(header: &str) -> Result<Source, String> {
     while !cursor.is_done() {
         if cursor.eat(&["typedef", "struct", "{"]) {
             structs.push(structure(&mut cursor)?);
+        } else if cursor.eat(&["enum", "{"]) {
+            cursor.until(&["}"])?;
+            cursor.expect(&["}", ";"])?;
+        } else if cursor.eat(&["static", "inline"]) {
+            cursor.until(&["{"])?;
+            pass_body(&mut cursor)?;
         } else {
             functions.push(function(&mut cursor)?);
         }
@@ -36,13 +42,38 @@ pub fn declarations(header: &str) -> Result<Source, String> {
     })
 }
 
-/// What a C compiler reads: without the directives and without what is for C++ alone.
+/// The names that enums without macros give to numbers.
+pub fn named_numbers(header: &str) -> Result<Vec<String>, String> {
+    let tokens = without_directives(&tokens(header))?;
+    let given = tokens.windows(2).filter(|next| next[1].text == "=");
+    let names = given.map(|next| next[0].text.clone());
+    Ok(names.filter(|name| name.starts_with("CUWELFRA_")).collect())
+}
+
+/// Passes a function's body, from its opening brace to its closing one.
+fn pass_body(cursor: &mut Cursor) -> Result<(), String> {
+    let mut open = 0;
+    loop {
+        match cursor.next()? {
+            "{" => open += 1,
+            "}" if open == 1 => return Ok(()),
+            "}" => open -= 1,
+            _ => {}
+        }
+    }
+}
+
+/// What a C compiler reads: without the directives, which go on behind a backslash, and without what is for C++ alone.
 fn without_directives(tokens: &[Token]) -> Result<Vec<Token>, String> {
     let mut kept = Vec::new();
     let mut is_for_c = true;
+    let mut goes_on = false;
     for line in tokens.chunk_by(|a, b| a.line == b.line) {
         let texts: Vec<&str> = line.iter().map(|token| token.text.as_str()).collect();
+        let is_behind = goes_on;
+        goes_on = (is_behind || texts[0] == "#") && texts.last() == Some(&"\\");
         match texts[..] {
+            _ if is_behind => {}
             ["#", "ifdef", "__cplusplus"] => is_for_c = false,
             ["#", "endif"] => is_for_c = true,
             ["#", "ifndef", "CUWELFRA_H"] | ["#", "include", ..] => {}

@@ -198,3 +198,16 @@ fn the_example_in_c_calls_every_export() {
         );
     }
 }
+
+/// It uses the names of the numbers too. The refusals have theirs from a list, which rust/cuwelfra/tests compares.
+#[test]
+fn the_example_in_c_uses_every_name() {
+    let example = tokens::tokens(&read(&root().join("c/example.c")));
+    let used: BTreeSet<&str> = example.iter().map(|token| token.text.as_str()).collect();
+    let names =
+        header::named_numbers(&Texts::of_the_repository().header).expect("a readable header");
+    assert!(!names.is_empty(), "no name was found");
+    for name in names {
+        assert!(used.contains(name.as_str()), "c/example.c lacks {name}");
+    }
+}

@@ -56,6 +56,22 @@ const HEADER: &str = r#"
 extern "C" {
 #endif
 
+#define CUWELFRA_LIST(X) \
+    /* uint32_t cuwelfra_first(void); is none, \
+       nor is this. */  \
+    X(1, ONE) X(2, TWO) \
+    X(3, THREE)
+#define CUWELFRA_NAMED(number, name) CUWELFRA_##name = number,
+enum { CUWELFRA_LIST(CUWELFRA_NAMED) };
+enum { CUWELFRA_NONE = 0, CUWELFRA_SOME = 1 };
+static inline uint64_t cuwelfra_inside(uint64_t v)
+{
+    while (v > 9) {
+        v--;
+    }
+    return v;
+}
+
 /* A refusal; uint32_t cuwelfra_none(void); is none. */
 typedef struct {
     uint64_t number;
@@ -340,6 +356,10 @@ fn what_cannot_be_read_is_named() {
         in_header("#include <stdint.h>", "#if 0"),
         ["the header: line 4: a directive that is not known here"]
     );
+    assert_eq!(
+        in_header("    return v;\n}", "    return v;"),
+        ["the header: it ends too early"]
+    );
     let plain = in_rattle("#[no_mangle]\npub extern", "pub extern");
     assert_eq!(
         plain,
@@ -391,4 +411,10 @@ fn the_symbols_of_a_library_are_compared() {
     );
     assert_eq!(in_library(&whole[..80]), ["the library: it is cut short"]);
     assert_eq!(in_library(b"nothing"), ["the library: it is no archive"]);
+}
+
+#[test]
+fn the_names_of_numbers_are_found() {
+    let names = crate::header::named_numbers(HEADER).expect("a readable header");
+    assert_eq!(names, ["CUWELFRA_NONE", "CUWELFRA_SOME"]);
 }
