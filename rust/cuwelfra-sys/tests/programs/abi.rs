@@ -22,21 +22,20 @@ fn library_crate_and_header_have_one_number() {
     assert!(header().contains(&format!("uint64_t {}(void);", name())));
 }
 
-/// The library with another number in that name, in a folder.
+/// The library with another name in the place of that one, in a folder.
 fn other_library(folder: &Path) -> PathBuf {
-    let other = format!("cuwelfra_abi_{}", ABI + 1);
-    let (name, other) = (name().into_bytes(), other.into_bytes());
-    assert_eq!(name.len(), other.len(), "a name as long as the other");
+    let name = format!("{}\0", name());
+    let other = name.replace("abi", "iba");
     let mut bytes = fs::read(library()).expect("the library");
     let mut found = 0;
     for at in 0..bytes.len() - name.len() {
-        if bytes[at..].starts_with(&name) {
-            bytes[at..at + name.len()].copy_from_slice(&other);
+        if bytes[at..].starts_with(name.as_bytes()) {
+            bytes[at..at + name.len()].copy_from_slice(other.as_bytes());
             found += 1;
         }
     }
-    // Once in the table of the archive, once in that of the object.
-    assert_eq!(found, 2, "places of the name");
+    // In the table of the archive and in that of the object.
+    assert!(found >= 2, "the name stands in {found} places");
     let path = folder.join("libcuwelfra.a");
     write(&path, bytes);
     path

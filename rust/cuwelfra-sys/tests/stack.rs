@@ -1,0 +1,116 @@
+//! The largest calls, on a thread with as much stack as docs/GUIDE.md asks for. Where it is too little the process ends.
+
+use std::thread;
+
+use cuwelfra_sys::ffi::{cuwelfra_apply_remote_ops, cuwelfra_from_parts, cuwelfra_read_op};
+
+const STACK_BYTES: usize = 32 * 1024;
+const ROWS: usize = 1_024;
+const SLOT_BYTES: usize = 704;
+
+/// An empty store.
+struct Store {
+    log: Vec<u8>,
+    held: Vec<u8>,
+    head: Vec<u8>,
+}
+
+impl Store {
+    fn new() -> Self {
+        Self {
+            log: vec![0; ROWS * SLOT_BYTES],
+            held: vec![0; 45_056],
+            head: vec![0; 2_120],
+        }
+    }
+}
+
+/// A batch of 64 rows of author 1, the last first, so that each waits for the one behind it.
+fn batch() -> Vec<u8> {
+    let rows = (1..=64).rev().flat_map(|seq| {
+        // Wall time, counter, stamp author, author, sequence; no dependency, payload or signature; verified, fits.
+        [10, 0, 1, 1, seq, 0, 0, 0, 1, 0, 0]
+    });
+    [64].into_iter().chain(rows).collect()
+}
+
+fn on_a_small_stack<T: Send>(call: impl FnOnce() -> T + Send) -> T {
+    thread::scope(|scope| {
+        let thread = thread::Builder::new().stack_size(STACK_BYTES);
+        let running = thread.spawn_scoped(scope, call).expect("a thread");
+        running.join().expect("an answer")
+    })
+}
+
+#[test]
+fn a_batch_of_64_rows() {
+    let (mut store, batch) = (Store::new(), batch());
+    let mut scratch = vec![0; 64 * SLOT_BYTES];
+    let mut output = vec![0; 64 * 18];
+    let report = on_a_small_stack(|| {
+        // SAFETY: each pointer is good for the length beside it, and no two areas overlap.
+        unsafe {
+            cuwelfra_apply_remote_ops(
+                64,
+                64,
+                64 * 256,
+                3_600_000,
+                60_000,
+                16,
+                256,
+                1_000,
+                store.log.as_mut_ptr(),
+                store.log.len(),
+                store.held.as_mut_ptr(),
+                store.held.len(),
+                store.head.as_mut_ptr(),
+                store.head.len(),
+                batch.as_ptr(),
+                batch.len(),
+                scratch.as_mut_ptr(),
+                scratch.len(),
+                output.as_mut_ptr(),
+                output.len(),
+            )
+        }
+    });
+    assert_eq!((report.told.number, report.applied), (0, 64));
+}
+
+#[test]
+fn a_store_of_1024_parts() {
+    let (mut store, batch) = (Store::new(), batch());
+    let mut slot = [0; SLOT_BYTES];
+    // SAFETY: as above.
+    let read = unsafe {
+        cuwelfra_read_op(
+            batch.as_ptr(),
+            batch.len(),
+            1,
+            slot.as_mut_ptr(),
+            slot.len(),
+        )
+    };
+    assert_eq!(read.told.number, 0);
+    let (parts, compacted) = (slot.repeat(ROWS), [0; 520]);
+    let told = on_a_small_stack(|| {
+        // SAFETY: as above.
+        unsafe {
+            cuwelfra_from_parts(
+                store.log.as_mut_ptr(),
+                store.log.len(),
+                store.held.as_mut_ptr(),
+                store.held.len(),
+                store.head.as_mut_ptr(),
+                store.head.len(),
+                parts.as_ptr(),
+                parts.len(),
+                ROWS,
+                compacted.as_ptr(),
+                compacted.len(),
+            )
+        }
+    });
+    assert_eq!(told.number, 0);
+    assert_eq!(store.head[..8], 1_024u64.to_be_bytes());
+}
