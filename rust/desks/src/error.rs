@@ -88,7 +88,11 @@ impl Error {
         let mut text = self.to_string();
         let mut cause = error::Error::source(self);
         while let Some(error) = cause {
-            text += &format!(": {error}");
+            let said = error.to_string();
+            // Some errors show their cause themselves.
+            if !text.ends_with(&said) {
+                text += &format!(": {said}");
+            }
             if let Some(refusal) = error.downcast_ref::<Refusal>() {
                 text += &format!("; {}", refusal.advice());
             }
@@ -135,6 +139,17 @@ mod tests {
             ),
             (Error::Batch("a 1".to_owned(), refusal), "a 1", &advised),
             (Error::Refused(refusal), "a call was refused", &advised),
+            (
+                Error::Store(
+                    file(),
+                    FileError::Io {
+                        step: "open it",
+                        error: gone(),
+                    },
+                ),
+                "a",
+                "cannot open it: it is gone",
+            ),
             (
                 Error::Store(file(), FileError::Version(9)),
                 "a",
