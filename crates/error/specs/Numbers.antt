@@ -26,15 +26,15 @@ numberOf (AuthorOverflow limit actor) = 16
 numberOf LogFull = 17
 numberOf AuthorsFull = 18
 numberOf CounterOverflow = 19
-numberOf (RemoteAhead remote local) = 20
+numberOf (RemoteAhead remote physical) = 20
 numberOf UnaskedPong = 21
 numberOf Truncated = 22
 numberOf VarintOverflow = 23
 numberOf TooLarge = 24
 numberOf TrailingBytes = 25
 
--- "Refusals 5 to 13 carry author and sequence, 14 to 16 the limit, 16 also the author"; 20 carries the remote and the
--- local wall, as the Rust's RemoteTooFarAhead. The first value, 0 where there is none
+-- "Refusals 5 to 13 carry author and sequence, 14 to 16 the limit, 16 also the author"; 20 carries the remote wall and
+-- the physical time, which the Rust's RemoteTooFarAhead calls local_wall. The first value, 0 where there is none
 abbrev pub firstOf : Refusal → ℕ
 firstOf UnsoundStore = 0
 firstOf ShortArea = 0
@@ -55,7 +55,7 @@ firstOf (AuthorOverflow limit actor) = limit
 firstOf LogFull = 0
 firstOf AuthorsFull = 0
 firstOf CounterOverflow = 0
-firstOf (RemoteAhead remote local) = remote
+firstOf (RemoteAhead remote physical) = remote
 firstOf UnaskedPong = 0
 firstOf Truncated = 0
 firstOf VarintOverflow = 0
@@ -83,7 +83,7 @@ secondOf (AuthorOverflow limit actor) = actor .0
 secondOf LogFull = 0
 secondOf AuthorsFull = 0
 secondOf CounterOverflow = 0
-secondOf (RemoteAhead remote local) = local
+secondOf (RemoteAhead remote physical) = physical
 secondOf UnaskedPong = 0
 secondOf Truncated = 0
 secondOf VarintOverflow = 0
