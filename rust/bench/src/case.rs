@@ -1,7 +1,8 @@
 //! A batch call on a store of the port and on the original's merger, from the same start.
 
 use cuwelfra::{
-    Batch, Limits, Refusal, Report, Row, Slot, Store, VectorClock, LINE_BYTES, SLOT_BYTES,
+    Batch, Limits, Refusal, Report, Request, Row, Slot, Store, VectorClock, LINE_BYTES,
+    SCRATCH_BYTES, SLOT_BYTES,
 };
 use cuwelfra_sys as sys;
 use oracle::clock::Timestamp;
@@ -99,7 +100,7 @@ impl Case {
 
     /// The exported call on lent areas.
     pub fn exported(&self) -> Subject<'_> {
-        let mut scratch = vec![0; 128 * SLOT_BYTES];
+        let mut scratch = vec![0; 128 * SCRATCH_BYTES];
         let mut output = vec![0; 128 * LINE_BYTES];
         Box::new(move || {
             let (mut log, mut held, mut head) = self.store.clone().into_areas();
@@ -109,7 +110,7 @@ impl Case {
                 head: &mut head,
             };
             let batch = self.batch.bytes();
-            let limits = Limits::default().numbers();
+            let limits = Limits::default().settings();
             time(|| sys::apply_remote_ops(limits, NOW, areas, batch, &mut scratch, &mut output))
         })
     }
@@ -177,12 +178,12 @@ pub fn slots(rows: &[Row]) -> Result<Vec<Slot>, Refusal> {
 /// A store of these logged rows.
 pub fn store_of(rows: &[Row], capacity: usize) -> Result<Store, Refusal> {
     let mut store = Store::with_capacity(capacity)?;
-    store.from_parts(&slots(rows)?, &VectorClock::new())?;
+    store.rebuild(&slots(rows)?, &VectorClock::new())?;
     Ok(store)
 }
 
 fn wrapped(store: &mut Store, batch: &[u8]) -> Result<Report, Refusal> {
-    store.apply_remote_ops(&Limits::default(), NOW, batch)
+    store.apply_remote_ops(&Request::at(NOW), batch)
 }
 
 fn merge(
@@ -195,7 +196,7 @@ fn merge(
 
 /// Requires that both logs have the same rows in the same order.
 pub fn same_log(store: &Store, log: &ReplicatedLog) -> Result<(), String> {
-    let rows = store.ops().map_err(shown)?;
+    let rows = store.logged().map_err(shown)?;
     if rows.iter().map(operation).ne(log.ops().iter().cloned()) {
         return Err(format!("the logs differ: {rows:?}, {:?}", log.ops()));
     }

@@ -1,7 +1,6 @@
 //! Times the port beside the Rust original and prints tables in Markdown: `bench`.
 //! `bench repeat SECONDS LOGGED BATCH` repeats the port's batch call alone, for a profiler.
 
-#![deny(warnings)]
 #![forbid(unsafe_code)]
 
 #[cfg(oracle_present)]

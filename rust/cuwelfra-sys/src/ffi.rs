@@ -1,4 +1,18 @@
-//! The declarations. The calls take any values; each pointer must be good for its length.
+//! The declarations.
+//!
+//! # Safety
+//!
+//! The calls take any numbers, any lengths and any bytes, and answer each. What their caller vouches for is the same for
+//! all of them, and nothing tests it:
+//!
+//! 1. A pointer is not null, and good for as many bytes as the length behind it says: all of one allocation, initialised,
+//!    and where it is `*mut` to be written too. With length 0 it may dangle.
+//! 2. What a `*mut` pointer names overlaps no other area of that call.
+//! 3. While the call runs no other thread writes an area, or reads one that the call writes.
+//! 4. The linked library has these declarations.
+//!
+//! Slices that are borrowed for the call are such areas, mutable ones those that it writes: 1 to 3 hold of them. The
+//! macro `lend` of this crate makes every call so. There is no other `unsafe` code.
 
 use crate::*;
 

@@ -2,7 +2,8 @@
 //!
 //! A slice goes over as a pointer and a length. The answers are handed on as they come.
 
-#![deny(warnings, missing_docs)]
+#[macro_use]
+mod lend;
 
 pub mod abi;
 pub mod ffi;
@@ -23,7 +24,8 @@ pub use store::*;
 
 /// A refusal as numbers. `number` 0: not refused; else document 01's number and its values.
 #[repr(C)]
-#[derive(Clone, Copy, Debug, Default, PartialEq, Eq)]
+#[derive(Clone, Copy, Debug, Default, PartialEq, Eq, Hash)]
+#[must_use]
 pub struct Told {
     /// Document 01's number of the refusal.
     pub number: u64,

@@ -1,10 +1,11 @@
 //! The batch call, and the floor.
 
-use crate::{ffi, Told};
+use crate::Told;
 
 /// What a batch call answers; all counts are 0 when it is refused.
 #[repr(C)]
 #[derive(Clone, Copy, Debug, Default, PartialEq, Eq)]
+#[must_use]
 pub struct MergeTold {
     /// Whether the call was refused.
     pub told: Told,
@@ -35,56 +36,55 @@ pub struct AreasMut<'a> {
     pub head: &'a mut [u8],
 }
 
-/// Applies a batch, with the seven settings in the declaration's order. Writes a line of 18 bytes for each logged row
-/// into `output`; `scratch` is zero after every call.
+/// The settings of a batch call, under the names of its arguments.
+#[derive(Clone, Copy, Debug, Default, PartialEq, Eq)]
+pub struct Settings {
+    /// Rows held at most.
+    pub max_pending: u64,
+    /// Rows held of one author at most.
+    pub max_pending_per_actor: u64,
+    /// Payload bytes held at most.
+    pub max_pending_bytes: u64,
+    /// How long a held row may wait, in ms.
+    pub max_pending_age_ms: u64,
+    /// How far ahead of the time a stamp may be, in ms.
+    pub max_drift_ms: u64,
+    /// Dependencies of a row at most.
+    pub max_deps: u64,
+    /// Payload bytes of a row at most.
+    pub max_payload: u64,
+}
+
+/// Applies a batch. Writes a line of 18 bytes for each logged row into `output`; `scratch` is zero after every call.
 pub fn apply_remote_ops(
-    settings: [u64; 7],
+    settings: Settings,
     time_ms: u64,
     s: AreasMut,
     batch: &[u8],
     scratch: &mut [u8],
     output: &mut [u8],
 ) -> MergeTold {
-    let [pending, per_actor, bytes, age_ms, drift_ms, deps, payload] = settings;
-    unsafe {
-        ffi::cuwelfra_apply_remote_ops(
-            pending,
-            per_actor,
-            bytes,
-            age_ms,
-            drift_ms,
-            deps,
-            payload,
-            time_ms,
-            s.log.as_mut_ptr(),
-            s.log.len(),
-            s.held.as_mut_ptr(),
-            s.held.len(),
-            s.head.as_mut_ptr(),
-            s.head.len(),
-            batch.as_ptr(),
-            batch.len(),
-            scratch.as_mut_ptr(),
-            scratch.len(),
-            output.as_mut_ptr(),
-            output.len(),
-        )
-    }
+    lend!(cuwelfra_apply_remote_ops(
+        settings.max_pending,
+        settings.max_pending_per_actor,
+        settings.max_pending_bytes,
+        settings.max_pending_age_ms,
+        settings.max_drift_ms,
+        settings.max_deps,
+        settings.max_payload,
+        time_ms,
+        write s.log,
+        write s.held,
+        write s.head,
+        read batch,
+        write scratch,
+        write output
+    ))
 }
 
 /// Raises the floor to a stamp (wall, counter, author); it never lowers it.
 pub fn set_floor(log: &[u8], held: &[u8], head: &mut [u8], stamp: (u64, u32, u64)) -> Told {
-    unsafe {
-        ffi::cuwelfra_set_floor(
-            log.as_ptr(),
-            log.len(),
-            held.as_ptr(),
-            held.len(),
-            head.as_mut_ptr(),
-            head.len(),
-            stamp.0,
-            stamp.1,
-            stamp.2,
-        )
-    }
+    lend!(cuwelfra_set_floor(
+        read log, read held, write head, stamp.0, stamp.1, stamp.2
+    ))
 }

@@ -1,67 +1,13 @@
-//! Batches in document 01's layout, and what comes with their rows.
-
-use std::error::Error;
-use std::fmt;
+//! Batches in document 01's layout.
 
 use cuwelfra_sys as sys;
 
-use crate::words::{part, size};
-use crate::{Refusal, Row, Slot, MAX_OP_BYTES};
+use crate::outcome::parts_of;
+use crate::words::{part, within};
+use crate::{Outcome, Refusal, Row, Slot, MAX_OP_BYTES};
 
 /// Rows of a batch at most.
 pub const MAX_BATCH: usize = 64;
-
-/// Why policy or state refuse a row. It is logged all the same.
-#[derive(Clone, Copy, Debug, PartialEq, Eq, Hash)]
-pub enum ApplyError {
-    /// The payload does not decode.
-    MalformedOp,
-    /// The payload has a tag that the state does not know.
-    UnknownOpTag(u8),
-    /// The author may not do this.
-    Denied,
-    /// The application refuses it, for the reason of this number.
-    Invalid(u8),
-}
-
-impl fmt::Display for ApplyError {
-    fn fmt(&self, f: &mut fmt::Formatter<'_>) -> fmt::Result {
-        match self {
-            Self::MalformedOp => write!(f, "malformed operation"),
-            Self::UnknownOpTag(tag) => write!(f, "unknown operation tag {tag}"),
-            Self::Denied => write!(f, "denied by policy"),
-            Self::Invalid(reason) => write!(f, "invalid operation, reason {reason}"),
-        }
-    }
-}
-
-impl Error for ApplyError {}
-
-/// What policy and state say of a row.
-pub type Outcome = Result<(), ApplyError>;
-
-/// Document 01's outcome and detail.
-pub(crate) fn parts_of(outcome: Outcome) -> (u8, u8) {
-    match outcome {
-        Ok(()) => (0, 0),
-        Err(ApplyError::MalformedOp) => (1, 0),
-        Err(ApplyError::UnknownOpTag(tag)) => (2, tag),
-        Err(ApplyError::Denied) => (3, 0),
-        Err(ApplyError::Invalid(reason)) => (4, reason),
-    }
-}
-
-/// What stands behind an outcome and its detail, `None` where document 01 has no such two.
-pub(crate) fn outcome_of(outcome: u8, detail: u8) -> Option<Outcome> {
-    Some(match (outcome, detail) {
-        (0, 0) => Ok(()),
-        (1, 0) => Err(ApplyError::MalformedOp),
-        (2, tag) => Err(ApplyError::UnknownOpTag(tag)),
-        (3, 0) => Err(ApplyError::Denied),
-        (4, reason) => Err(ApplyError::Invalid(reason)),
-        _ => return None,
-    })
-}
 
 /// A row, and what comes with it in a batch.
 #[derive(Clone, Debug, PartialEq, Eq)]
@@ -93,6 +39,10 @@ pub struct BatchRow {
 /// let read = Batch::read(batch.bytes())?;
 /// assert_eq!(read[0].row, first);
 /// assert_eq!(read[1].outcome, Err(ApplyError::Denied));
+///
+/// // Bytes that came from elsewhere are a batch where they read as one.
+/// assert_eq!(Batch::try_from(batch.as_ref()), Ok(batch));
+/// assert_eq!(Batch::try_from(&[1][..]), Err(Refusal::Unreadable));
 /// # Ok::<(), Refusal>(())
 /// ```
 #[derive(Clone, Debug, PartialEq, Eq)]
@@ -154,12 +104,12 @@ impl Batch {
         if Refusal::check(count.told).is_err() {
             return Err(Refusal::Unreadable);
         }
-        if size(count.value) > MAX_BATCH {
+        let Ok(len) = within(count.value, MAX_BATCH) else {
             return Err(Refusal::OverCapacity);
-        }
-        let mut at = size(count.next);
-        let mut rows = Vec::with_capacity(size(count.value));
-        for _ in 0..count.value {
+        };
+        let mut at = within(count.next, bytes.len())?;
+        let mut rows = Vec::with_capacity(len);
+        for _ in 0..len {
             let read = Slot::read(bytes, at)?;
             at = read.next;
             let held = read.slot.row()?;
@@ -176,10 +126,29 @@ impl Batch {
     }
 }
 
+impl AsRef<[u8]> for Batch {
+    fn as_ref(&self) -> &[u8] {
+        &self.0
+    }
+}
+
+impl TryFrom<&[u8]> for Batch {
+    type Error = Refusal;
+
+    /// Reads a batch's bytes and writes them anew, each number in its shortest form; 3 and 4 as [`Batch::read`].
+    fn try_from(bytes: &[u8]) -> Result<Self, Refusal> {
+        let mut batch = Self::new();
+        for row in Self::read(bytes)? {
+            batch.push(&row.row, row.verified, row.outcome)?;
+        }
+        Ok(batch)
+    }
+}
+
 #[cfg(test)]
 mod tests {
     use super::*;
-    use crate::{ActorId, Limits, Store, Timestamp};
+    use crate::{ActorId, ApplyError, Request, Store, Timestamp};
 
     fn rows() -> Vec<BatchRow> {
         let outcomes = [
@@ -220,6 +189,19 @@ mod tests {
     }
 
     #[test]
+    fn bytes_are_taken_over_in_their_shortest_form() -> Result<(), Refusal> {
+        let batch = batch(&rows())?;
+        assert_eq!(Batch::try_from(batch.as_ref()), Ok(batch.clone()));
+        // The count 5 in two bytes: the same batch, to which a row can be pushed.
+        let longer = [&[0x85, 0], &batch.bytes()[1..]].concat();
+        let mut taken = Batch::try_from(&longer[..])?;
+        assert_eq!(taken, batch);
+        taken.push(&rows()[0].row, true, Ok(()))?;
+        assert_eq!(Batch::read(taken.as_ref()).map(|rows| rows.len()), Ok(6));
+        Ok(())
+    }
+
+    #[test]
     fn the_65th_row_is_refused() -> Result<(), Refusal> {
         let rows = rows();
         let mut batch = batch(&vec![rows[0].clone(); MAX_BATCH])?;
@@ -234,11 +216,12 @@ mod tests {
     /// Reading refuses what the batch call refuses with 3 or 4, and nothing else.
     fn agrees_with_the_call(bytes: &[u8]) -> Result<(), Refusal> {
         let mut store = Store::with_capacity(64)?;
-        let called = store.apply_remote_ops(&Limits::default(), u64::MAX, bytes);
+        let called = store.apply_remote_ops(&Request::at(u64::MAX), bytes);
         let unreadable = called
             .err()
             .filter(|refusal| (3..=4).contains(&refusal.number()));
         assert_eq!(Batch::read(bytes).err(), unreadable, "{bytes:02x?}");
+        assert_eq!(Batch::try_from(bytes).err(), unreadable, "{bytes:02x?}");
         Ok(())
     }
 

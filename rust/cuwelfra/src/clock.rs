@@ -1,11 +1,13 @@
 //! Stamps, the hybrid clock and vector clocks.
 
 use std::cmp::Ordering;
+use std::error::Error;
 use std::fmt;
+use std::str::FromStr;
 
 use cuwelfra_sys as sys;
 
-use crate::words::{size, word};
+use crate::words::{flag, size, small, word};
 use crate::{ActorId, Refusal};
 
 /// Bytes of a clock area.
@@ -13,7 +15,7 @@ pub const CLOCK_BYTES: usize = 520;
 /// Authors of a clock at most.
 pub const MAX_AUTHORS: usize = 32;
 
-/// A stamp, ordered by wall time, counter and author.
+/// A stamp, ordered by wall time, counter and author. As text it is `WALL/COUNTER/AUTHOR`.
 ///
 /// ```
 /// use cuwelfra::{ActorId, Timestamp};
@@ -21,6 +23,9 @@ pub const MAX_AUTHORS: usize = 32;
 /// let early = Timestamp::new(10, 3, ActorId(2));
 /// assert!(early < Timestamp::new(10, 4, ActorId(1)));
 /// assert!(early > Timestamp::new(10, 3, ActorId(1)));
+///
+/// assert_eq!(early.to_string(), "10/3/2");
+/// assert_eq!("10/3/2".parse(), Ok(early));
 /// ```
 #[derive(Clone, Copy, Debug, PartialEq, Eq, Hash)]
 pub struct Timestamp {
@@ -59,6 +64,56 @@ impl PartialOrd for Timestamp {
     }
 }
 
+impl fmt::Display for Timestamp {
+    fn fmt(&self, f: &mut fmt::Formatter<'_>) -> fmt::Result {
+        let (wall, counter, author) = self.parts();
+        write!(f, "{wall}/{counter}/{author}")
+    }
+}
+
+impl FromStr for Timestamp {
+    type Err = ParseTimestampError;
+
+    /// Reads what is shown: three numbers of decimal digits, of at most 64, 32 and 64 bits.
+    fn from_str(text: &str) -> Result<Self, Self::Err> {
+        let mut words = text.split('/');
+        let stamp = Self::new(
+            next(&mut words)?,
+            next(&mut words)?,
+            ActorId(next(&mut words)?),
+        );
+        match words.next() {
+            None => Ok(stamp),
+            Some(_) => Err(ParseTimestampError),
+        }
+    }
+}
+
+/// The number that the next word is.
+fn next<'a, T: FromStr>(
+    words: &mut impl Iterator<Item = &'a str>,
+) -> Result<T, ParseTimestampError> {
+    let digits = |word: &&str| word.bytes().all(|byte| byte.is_ascii_digit());
+    let number = words
+        .next()
+        .filter(digits)
+        .and_then(|word| word.parse().ok());
+    number.ok_or(ParseTimestampError)
+}
+
+/// A text that is no [`Timestamp`]'s.
+#[derive(Clone, Copy, Debug, PartialEq, Eq, Hash)]
+#[non_exhaustive]
+pub struct ParseTimestampError;
+
+impl fmt::Display for ParseTimestampError {
+    fn fmt(&self, f: &mut fmt::Formatter<'_>) -> fmt::Result {
+        f.write_str("no stamp, which is written WALL/COUNTER/AUTHOR")
+    }
+}
+
+impl Error for ParseTimestampError {}
+
 /// A hybrid logical clock of one author. The caller brings the physical time, in ms.
 ///
 /// Each stamp that it issues is above all that it issued or took in before. A refusal leaves the clock.
@@ -81,99 +136,143 @@ impl PartialOrd for Timestamp {
 /// assert_eq!(clock.last(), (13, 0));
 /// # Ok::<(), Refusal>(())
 /// ```
-#[derive(Clone, Copy, Debug, PartialEq, Eq)]
-pub struct HybridClock {
-    actor: ActorId,
-    last_wall: u64,
-    last_counter: u32,
-    max_drift_ms: u64,
+#[derive(Clone, Copy, Debug, PartialEq, Eq, Hash)]
+pub struct HybridClock(HybridParts);
+
+/// All that there is of a [`HybridClock`], to be kept beside the store.
+///
+/// ```
+/// use cuwelfra::{ActorId, HybridClock, HybridParts, Refusal};
+///
+/// let mut clock = HybridClock::new(ActorId(1));
+/// clock.set_max_drift(1_000);
+/// let last = clock.now(10)?;
+///
+/// let HybridParts { actor, last_wall, last_counter, max_drift_ms } = clock.to_parts();
+/// let kept = format!("{actor} {last_wall} {last_counter} {max_drift_ms}");
+/// assert_eq!(kept, "1 10 0 1000");
+///
+/// let mut again = HybridClock::from_parts(HybridParts { actor, last_wall, last_counter, max_drift_ms });
+/// assert!(again.now(10)? > last);
+/// # Ok::<(), Refusal>(())
+/// ```
+#[derive(Clone, Copy, Debug, PartialEq, Eq, Hash)]
+pub struct HybridParts {
+    /// The author.
+    pub actor: ActorId,
+    /// The wall time of the last stamp issued or folded in.
+    pub last_wall: u64,
+    /// Its counter.
+    pub last_counter: u32,
+    /// The accepted lead of remote stamps, in ms.
+    pub max_drift_ms: u64,
 }
 
 impl HybridClock {
     /// A clock that has issued nothing, with the default drift.
     pub fn new(actor: ActorId) -> Self {
-        Self::from_parts(sys::hybrid_new(actor.0))
+        let made = sys::hybrid_new(actor.0);
+        Self(HybridParts {
+            actor,
+            last_wall: made.last_wall,
+            // A counter that does not fit cannot be told here: at the last one the clock issues nothing.
+            last_counter: small(made.last_counter).unwrap_or(u32::MAX),
+            max_drift_ms: made.max_drift_ms,
+        })
     }
 
     /// A clock that goes on where another stopped, whose [`HybridClock::last`] was kept; with the default drift.
     pub fn resume(actor: ActorId, last_wall: u64, last_counter: u32) -> Self {
-        Self {
+        Self(HybridParts {
             last_wall,
             last_counter,
-            ..Self::new(actor)
-        }
+            ..Self::new(actor).0
+        })
+    }
+
+    /// A clock that goes on where another stopped, whose [`HybridClock::to_parts`] were kept.
+    pub fn from_parts(parts: HybridParts) -> Self {
+        Self(parts)
+    }
+
+    /// All that there is of it.
+    pub fn to_parts(&self) -> HybridParts {
+        self.0
     }
 
     /// Sets the accepted lead of remote stamps over the physical time.
     pub fn set_max_drift(&mut self, max_drift_ms: u64) {
-        *self = Self::from_parts(sys::hybrid_set_max_drift(
-            self.actor.0,
-            self.last_wall,
-            self.last_counter,
-            self.max_drift_ms,
-            max_drift_ms,
-        ));
+        let HybridParts {
+            actor,
+            last_wall,
+            last_counter,
+            max_drift_ms: old,
+        } = self.0;
+        let set = sys::hybrid_set_max_drift(actor.0, last_wall, last_counter, old, max_drift_ms);
+        self.0.max_drift_ms = set.max_drift_ms;
     }
 
     /// The author.
     pub fn actor(&self) -> ActorId {
-        self.actor
+        self.0.actor
     }
 
     /// Wall time and counter of the last stamp issued or folded in.
     pub fn last(&self) -> (u64, u32) {
-        (self.last_wall, self.last_counter)
+        (self.0.last_wall, self.0.last_counter)
     }
 
     /// The accepted lead of remote stamps, in ms.
     pub fn max_drift_ms(&self) -> u64 {
-        self.max_drift_ms
+        self.0.max_drift_ms
     }
 
     /// Issues a stamp at the physical time; 19.
     pub fn now(&mut self, physical: u64) -> Result<Timestamp, Refusal> {
-        let issued = sys::hybrid_now(
-            self.actor.0,
-            self.last_wall,
-            self.last_counter,
-            self.max_drift_ms,
+        let parts = self.0;
+        self.issued(sys::hybrid_now(
+            parts.actor.0,
+            parts.last_wall,
+            parts.last_counter,
+            parts.max_drift_ms,
             physical,
-        );
-        self.moved(issued.last_wall, issued.last_counter);
+        ))
+    }
+
+    fn issued(&mut self, issued: sys::IssuedStamp) -> Result<Timestamp, Refusal> {
         Refusal::check(issued.told)?;
+        let counter = small(issued.logical_counter)?;
+        self.moved(issued.last_wall, issued.last_counter)?;
         Ok(Timestamp::new(
             issued.wall_time,
-            issued.logical_counter as u32,
+            counter,
             ActorId(issued.actor_id),
         ))
     }
 
     /// Folds a remote stamp in at the physical time; 20, then 19.
     pub fn update(&mut self, remote: &Timestamp, physical: u64) -> Result<(), Refusal> {
-        let updated = sys::hybrid_update(
-            self.actor.0,
-            self.last_wall,
-            self.last_counter,
-            self.max_drift_ms,
+        let parts = self.0;
+        self.updated(sys::hybrid_update(
+            parts.actor.0,
+            parts.last_wall,
+            parts.last_counter,
+            parts.max_drift_ms,
             remote.parts(),
             physical,
-        );
-        self.moved(updated.last_wall, updated.last_counter);
-        Refusal::check(updated.told)
+        ))
     }
 
-    fn moved(&mut self, wall: u64, counter: u64) {
-        self.last_wall = wall;
-        self.last_counter = counter as u32;
+    fn updated(&mut self, updated: sys::UpdatedClock) -> Result<(), Refusal> {
+        Refusal::check(updated.told)?;
+        self.moved(updated.last_wall, updated.last_counter)
     }
 
-    fn from_parts(parts: sys::Hybrid) -> Self {
-        Self {
-            actor: ActorId(parts.actor),
-            last_wall: parts.last_wall,
-            last_counter: parts.last_counter as u32,
-            max_drift_ms: parts.max_drift_ms,
-        }
+    /// Moves the clock on, once its answer is known to fit.
+    fn moved(&mut self, wall: u64, counter: u64) -> Result<(), Refusal> {
+        self.0.last_counter = small(counter)?;
+        self.0.last_wall = wall;
+        Ok(())
     }
 }
 
@@ -188,6 +287,18 @@ pub enum CausalOrder {
     Equal,
     /// Neither covers the other.
     Concurrent,
+}
+
+impl CausalOrder {
+    fn of(number: u64) -> Result<Self, Refusal> {
+        Ok(match number {
+            0 => Self::Before,
+            1 => Self::After,
+            2 => Self::Equal,
+            3 => Self::Concurrent,
+            _ => return Err(Refusal::MisfitAnswer),
+        })
+    }
 }
 
 /// A vector clock in its area of 520 bytes: each author's highest sequence, an absent one counts as 0.
@@ -210,7 +321,7 @@ pub enum CausalOrder {
 /// assert_eq!(other.get(ActorId(7)), Ok(0));
 /// # Ok::<(), Refusal>(())
 /// ```
-#[derive(Clone, Copy, PartialEq, Eq)]
+#[derive(Clone, Copy, PartialEq, Eq, Hash)]
 pub struct VectorClock([u8; CLOCK_BYTES]);
 
 impl Default for VectorClock {
@@ -265,18 +376,12 @@ impl VectorClock {
 
     /// Whether every number of `other` is covered; 1.
     pub fn dominates(&self, other: &VectorClock) -> Result<bool, Refusal> {
-        number(sys::clock_dominates(&self.0, &other.0)).map(|answer| answer == 1)
+        number(sys::clock_dominates(&self.0, &other.0)).and_then(flag)
     }
 
     /// How this clock stands to `other`; 1.
     pub fn compare(&self, other: &VectorClock) -> Result<CausalOrder, Refusal> {
-        let answer = number(sys::clock_compare(&self.0, &other.0))?;
-        Ok(match answer {
-            0 => CausalOrder::Before,
-            1 => CausalOrder::After,
-            2 => CausalOrder::Equal,
-            _ => CausalOrder::Concurrent,
-        })
+        number(sys::clock_compare(&self.0, &other.0)).and_then(CausalOrder::of)
     }
 }
 
@@ -351,5 +456,134 @@ mod tests {
         assert_eq!(resumed, clock);
         assert!(resumed.now(9)? > last);
         Ok(())
+    }
+
+    #[test]
+    fn parts_are_all_of_a_clock() -> Result<(), Refusal> {
+        let mut clock = HybridClock::new(ActorId(4));
+        clock.set_max_drift(7);
+        clock.now(10)?;
+        clock.now(10)?;
+        let parts = clock.to_parts();
+        let wanted = HybridParts {
+            actor: ActorId(4),
+            last_wall: 10,
+            last_counter: 1,
+            max_drift_ms: 7,
+        };
+        assert_eq!(parts, wanted);
+        let mut again = HybridClock::from_parts(parts);
+        assert_eq!(again, clock);
+        // The drift too goes on.
+        let far = Timestamp::new(18, 0, ActorId(2));
+        let ahead = Refusal::RemoteAhead {
+            remote_wall: 18,
+            local_wall: 10,
+        };
+        assert_eq!(again.update(&far, 10), Err(ahead));
+        Ok(())
+    }
+
+    /// Counters of 33 bits, in the stamp or in the clock.
+    #[test]
+    fn an_answer_that_does_not_fit_moves_no_clock() {
+        let before = HybridClock::resume(ActorId(4), 10, 3);
+        let told = sys::Told::default();
+        for (logical_counter, last_counter) in [(1 << 32, 0), (0, 1 << 32)] {
+            let mut clock = before;
+            let issued = sys::IssuedStamp {
+                told,
+                wall_time: 20,
+                logical_counter,
+                actor_id: 4,
+                last_wall: 20,
+                last_counter,
+            };
+            assert_eq!(clock.issued(issued), Err(Refusal::MisfitAnswer));
+            assert_eq!(clock, before);
+        }
+        let mut clock = before;
+        let updated = sys::UpdatedClock {
+            told,
+            last_wall: 20,
+            last_counter: 1 << 32,
+        };
+        assert_eq!(clock.updated(updated), Err(Refusal::MisfitAnswer));
+        assert_eq!(clock, before);
+    }
+
+    /// Where a library moved the clock in a refusal all the same, this one stays.
+    #[test]
+    fn a_refusal_moves_no_clock() {
+        let before = HybridClock::resume(ActorId(4), 10, 3);
+        let mut clock = before;
+        let told = Refusal::CounterOverflow.told();
+        let issued = sys::IssuedStamp {
+            told,
+            last_wall: 20,
+            ..sys::IssuedStamp::default()
+        };
+        let updated = sys::UpdatedClock {
+            told,
+            last_wall: 20,
+            last_counter: 0,
+        };
+        assert_eq!(clock.issued(issued), Err(Refusal::CounterOverflow));
+        assert_eq!(clock.updated(updated), Err(Refusal::CounterOverflow));
+        assert_eq!(clock, before);
+    }
+
+    #[test]
+    fn an_order_is_one_of_four() {
+        let orders = [
+            CausalOrder::Before,
+            CausalOrder::After,
+            CausalOrder::Equal,
+            CausalOrder::Concurrent,
+        ];
+        for (number, order) in (0..).zip(orders) {
+            assert_eq!(CausalOrder::of(number), Ok(order));
+        }
+        for number in [4, u64::MAX] {
+            assert_eq!(CausalOrder::of(number), Err(Refusal::MisfitAnswer));
+        }
+    }
+
+    #[test]
+    fn stamps_read_as_they_are_shown() {
+        let stamps = [
+            (Timestamp::new(0, 0, ActorId(0)), "0/0/0"),
+            (Timestamp::new(10, 3, ActorId(2)), "10/3/2"),
+            (
+                Timestamp::new(u64::MAX, u32::MAX, ActorId(u64::MAX)),
+                "18446744073709551615/4294967295/18446744073709551615",
+            ),
+        ];
+        for (stamp, text) in stamps {
+            assert_eq!(stamp.to_string(), text);
+            assert_eq!(text.parse(), Ok(stamp));
+        }
+        let others = [
+            "",
+            "1",
+            "1/2",
+            "1/2/",
+            "1//3",
+            "1/2/3/",
+            "1/2/3/4",
+            "+1/2/3",
+            "-1/2/3",
+            " 1/2/3",
+            "1/4294967296/3",
+            "18446744073709551616/2/3",
+            "1/2/18446744073709551616",
+        ];
+        for text in others {
+            assert_eq!(
+                text.parse::<Timestamp>(),
+                Err(ParseTimestampError),
+                "{text}"
+            );
+        }
     }
 }

@@ -2,7 +2,7 @@
 
 use cuwelfra_sys as sys;
 
-use crate::words::{part, size};
+use crate::words::{part, size, small, within};
 use crate::{ActorId, Refusal};
 
 /// Bytes of an envelope's body at most.
@@ -52,7 +52,7 @@ impl<'a> Reader<'a> {
     /// Reads one byte; 22.
     pub fn u8(&mut self) -> Result<u8, Refusal> {
         let read = sys::get_u8(self.bytes, self.at);
-        self.number(read).map(|value| value as u8)
+        self.number(read)
     }
 
     /// Reads a varint; 22, 23.
@@ -64,21 +64,21 @@ impl<'a> Reader<'a> {
     /// Reads a varint of at most 32 bits; 22, 23.
     pub fn u32(&mut self) -> Result<u32, Refusal> {
         let read = sys::get_u32(self.bytes, self.at);
-        self.number(read).map(|value| value as u32)
+        self.number(read)
     }
 
     /// Reads a count of at most `max` and at most the bytes left after it; 22 to 24.
     pub fn count(&mut self, max: u64) -> Result<usize, Refusal> {
         let read = sys::get_count(self.bytes, self.at, max);
-        self.number(read).map(size)
+        self.number(read)
     }
 
     /// Reads bytes, length first, at most `max`; 22 to 24.
     pub fn bytes(&mut self, max: u64) -> Result<&'a [u8], Refusal> {
         let read = sys::get_bytes(self.bytes, self.at, max);
         Refusal::check(read.told)?;
-        let part = part(self.bytes, size(read.start), read.len)?;
-        self.at = size(read.next);
+        let part = part(self.bytes, read.start, read.len)?;
+        self.at = within(read.next, self.bytes.len())?;
         Ok(part)
     }
 
@@ -87,10 +87,11 @@ impl<'a> Reader<'a> {
         Refusal::check(sys::finish(self.bytes, self.at))
     }
 
-    fn number(&mut self, read: sys::NumberRead) -> Result<u64, Refusal> {
+    fn number<T: TryFrom<u64>>(&mut self, read: sys::NumberRead) -> Result<T, Refusal> {
         Refusal::check(read.told)?;
-        self.at = size(read.next);
-        Ok(read.value)
+        let value = small(read.value)?;
+        self.at = within(read.next, self.bytes.len())?;
+        Ok(value)
     }
 }
 
@@ -145,7 +146,7 @@ impl<'a> Writer<'a> {
     }
 
     fn moved(&mut self, written: sys::Written) -> Result<(), Refusal> {
-        self.at = next(written)?;
+        self.at = next(written, self.out.len())?;
         Ok(())
     }
 }
@@ -181,12 +182,8 @@ impl<'a> Envelope<'a> {
 
     /// Writes the envelope at the start of `out` and gives its length; 2.
     pub fn encode(&self, out: &mut [u8]) -> Result<usize, Refusal> {
-        next(sys::encode_envelope(
-            out,
-            self.sender.0,
-            self.body,
-            self.sig,
-        ))
+        let written = sys::encode_envelope(out, self.sender.0, self.body, self.sig);
+        next(written, out.len())
     }
 
     /// Reads the envelope that fills all of `frame`; 22 to 25. Body and signature are parts of it.
@@ -195,14 +192,46 @@ impl<'a> Envelope<'a> {
         Refusal::check(read.told)?;
         Ok(Self {
             sender: ActorId(read.sender),
-            body: part(frame, size(read.body_at), read.body_len)?,
-            sig: part(frame, size(read.sig_at), read.sig_len)?,
+            body: part(frame, read.body_at, read.body_len)?,
+            sig: part(frame, read.sig_at, read.sig_len)?,
         })
     }
 }
 
-/// The position past what was written.
-pub(crate) fn next(written: sys::Written) -> Result<usize, Refusal> {
+/// The position past what was written into so many bytes.
+pub(crate) fn next(written: sys::Written, room: usize) -> Result<usize, Refusal> {
     Refusal::check(written.told)?;
-    Ok(size(written.next))
+    within(written.next, room)
+}
+
+#[cfg(test)]
+mod tests {
+    use super::*;
+
+    const MISFIT: Refusal = Refusal::MisfitAnswer;
+
+    /// An answer as it would be read at the start of three bytes, and where the reader stands then.
+    fn read<T: TryFrom<u64>>(value: u64, next: u64) -> (Result<T, Refusal>, usize) {
+        let mut reader = Reader::new(b"abc");
+        let told = sys::Told::default();
+        let read = reader.number(sys::NumberRead { told, value, next });
+        (read, reader.position())
+    }
+
+    #[test]
+    fn numbers_that_are_too_large_are_no_answer_and_leave_the_reader() {
+        assert_eq!(read(255, 1), (Ok(255_u8), 1));
+        assert_eq!(read::<u8>(256, 1), (Err(MISFIT), 0));
+        assert_eq!(read(0xffff_ffff, 3), (Ok(u32::MAX), 3));
+        assert_eq!(read::<u32>(1 << 32, 3), (Err(MISFIT), 0));
+        assert_eq!(read(u64::MAX, 3), (Ok(u64::MAX), 3));
+        assert_eq!(read::<u64>(7, 4), (Err(MISFIT), 0));
+    }
+
+    #[test]
+    fn what_was_written_lies_in_the_room() {
+        let told = sys::Told::default();
+        let written = |next| super::next(sys::Written { told, next }, 3);
+        assert_eq!((written(3), written(4)), (Ok(3), Err(MISFIT)));
+    }
 }

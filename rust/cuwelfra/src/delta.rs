@@ -3,7 +3,7 @@
 use cuwelfra_sys as sys;
 
 use crate::clock::number;
-use crate::words::{misfit, size, word};
+use crate::words::{small, within, word};
 use crate::{Refusal, Row, Store, VectorClock};
 
 /// The logged rows that a peer lacks, in log order, as [`Store::delta`] finds them.
@@ -53,10 +53,10 @@ impl Store {
         call: impl FnOnce(&mut [u8]) -> sys::ClockNumber,
     ) -> Result<Vec<usize>, Refusal> {
         let mut output = vec![0; 8 * self.capacity()];
-        let count = size(number(call(&mut output))?);
+        let count = within(number(call(&mut output))?, self.capacity())?;
         let (words, _) = output.as_chunks::<8>();
-        let words = words.get(..count).ok_or(misfit())?;
-        Ok(words.iter().map(|bytes| size(word(bytes, 0))).collect())
+        let words = words.iter().take(count);
+        words.map(|bytes| small(word(bytes, 0))).collect()
     }
 }
 
@@ -95,7 +95,7 @@ impl Delta<'_> {
         let mut left = &self.positions[..];
         let mut chunks = Vec::new();
         for len in self.chunk_lens(max_rows, max_bytes)? {
-            let (chunk, rest) = left.split_at_checked(len).ok_or(misfit())?;
+            let (chunk, rest) = left.split_at_checked(len).ok_or(Refusal::MisfitAnswer)?;
             chunks.push(self.rows_at(chunk)?);
             left = rest;
         }
@@ -133,7 +133,7 @@ mod tests {
         peer.observe(ActorId(1), 1)?;
         let delta = store.delta(&peer)?;
         assert_eq!(delta.positions(), [1, 2, 3]);
-        assert_eq!(delta.rows()?, store.ops()?[1..]);
+        assert_eq!(delta.rows()?, store.logged()?[1..]);
         assert_eq!(delta.len(), 3);
         assert!(store.delta(&store.clock()?)?.is_empty());
         Ok(())
@@ -157,6 +157,21 @@ mod tests {
             assert_eq!(delta.chunk_lens(max_rows, max_bytes), Ok(lens));
             assert_eq!(chunks.concat(), delta.rows()?);
         }
+        Ok(())
+    }
+
+    #[test]
+    fn more_than_the_log_has_slots_is_no_answer() -> Result<(), Refusal> {
+        let store = store()?;
+        let listed = |number| {
+            store.listed(|output| {
+                output.fill(0);
+                let told = sys::Told::default();
+                sys::ClockNumber { told, number }
+            })
+        };
+        assert_eq!(listed(5), Ok(vec![0; 5]));
+        assert_eq!(listed(6), Err(Refusal::MisfitAnswer));
         Ok(())
     }
 

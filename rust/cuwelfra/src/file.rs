@@ -31,7 +31,10 @@ const LARGEST: usize =
     HEADER_BYTES + MAX_LOGGED * SLOT_BYTES + HELD_BYTES + HEAD_BYTES + CHECKSUM_BYTES;
 
 /// Why a store's file was not read or not written.
+///
+/// It shows what the operating system or the refusal said, so that [`Error::source`] gives only what lies behind that.
 #[derive(Debug)]
+#[non_exhaustive]
 pub enum FileError {
     /// The operating system refused a step.
     Io {
@@ -120,8 +123,8 @@ impl fmt::Display for FileError {
 impl Error for FileError {
     fn source(&self) -> Option<&(dyn Error + 'static)> {
         match self {
-            Self::Io { error, .. } => Some(error),
-            Self::Refused(refusal) => Some(refusal),
+            Self::Io { error, .. } => error.source(),
+            Self::Refused(refusal) => refusal.source(),
             _ => None,
         }
     }
@@ -177,6 +180,7 @@ impl Store {
 /// # Ok::<(), Box<dyn std::error::Error>>(())
 /// ```
 #[derive(Debug)]
+#[must_use = "an update that is not saved changes nothing"]
 pub struct Update {
     path: PathBuf,
     temporary: Temporary,
@@ -290,8 +294,8 @@ fn encode(store: &Store) -> Result<Vec<u8>, FileError> {
     store.check()?;
     let (log, held, head) = store.areas();
     let parts = [
-        part(log, 0, (store.log_len()? * SLOT_BYTES) as u64)?,
-        part(held, 0, (store.pending_len()? * SLOT_BYTES) as u64)?,
+        part(log, 0, (store.logged_len()? * SLOT_BYTES) as u64)?,
+        part(held, 0, (store.held_len()? * SLOT_BYTES) as u64)?,
         part(head, 0, HEAD_BYTES as u64)?,
     ];
     let lengths = parts.map(|part| part.len() as u64);
@@ -313,7 +317,7 @@ fn decode(bytes: &[u8]) -> Result<Store, FileError> {
     let header = Header::read(bytes)?;
     header.check_end(bytes)?;
     let (log, held) = (header.log, header.held);
-    let area = |at: usize, len: usize| part(bytes, HEADER_BYTES + at, len as u64);
+    let area = |at: usize, len: usize| part(bytes, (HEADER_BYTES + at) as u64, len as u64);
     let store = Store::from_areas(
         filled(area(0, log)?, header.slots * SLOT_BYTES),
         filled(area(log, held)?, HELD_BYTES),
@@ -321,8 +325,8 @@ fn decode(bytes: &[u8]) -> Result<Store, FileError> {
     );
     store.check()?;
     let counted = (
-        store.log_len()? * SLOT_BYTES,
-        store.pending_len()? * SLOT_BYTES,
+        store.logged_len()? * SLOT_BYTES,
+        store.held_len()? * SLOT_BYTES,
     );
     match counted == (log, held) {
         true => Ok(store),
@@ -438,7 +442,7 @@ fn crc64(bytes: &[u8]) -> u64 {
 #[cfg(test)]
 mod tests {
     use super::*;
-    use crate::{ActorId, Batch, Limits, Row, Timestamp};
+    use crate::{ActorId, Batch, Request, Row, Timestamp};
 
     /// A folder of its own for a test, removed after it.
     struct Folder(PathBuf);
@@ -488,7 +492,7 @@ mod tests {
                 let row = row(*seq);
                 batch.push(&row, true, Ok(())).expect("a row that fits");
             }
-            let report = store.apply_remote_ops(&Limits::default(), 100, batch.bytes());
+            let report = store.apply_remote_ops(&Request::at(100), &batch);
             report.expect("a batch that is accepted");
         }
         store
@@ -653,6 +657,30 @@ mod tests {
         bytes[24..32].fill(0);
         let error = decode(&sealed(bytes)).expect_err("a file without the row");
         assert!(matches!(error, FileError::Counts), "{error}");
+    }
+
+    /// As a chain of errors is shown: each text, and then those behind it.
+    #[test]
+    fn a_cause_is_shown_once() {
+        let shown = |error: &FileError| {
+            let mut text = error.to_string();
+            let mut behind = error.source();
+            while let Some(cause) = behind {
+                text += &format!(": {cause}");
+                behind = cause.source();
+            }
+            text
+        };
+        let refused = FileError::Refused(Refusal::UnsoundStore);
+        let text = "the store in it is refused: refusal 1, unsound store";
+        assert_eq!(shown(&refused), text);
+        let missing = Store::load("no such file").expect_err("no file");
+        let cause = io::Error::from_raw_os_error(2).to_string();
+        assert_eq!(shown(&missing), format!("cannot open the file: {cause}"));
+        let wrapped = io::Error::other(Refusal::LogFull);
+        let wrapped = while_trying("write the temporary file")(wrapped);
+        let text = "cannot write the temporary file: refusal 17, log full";
+        assert_eq!(shown(&wrapped), text);
     }
 
     #[test]

@@ -2,15 +2,15 @@
 //! that merges what other desks send. Every function behind these calls is proved; this crate is thin over them and has
 //! no `unsafe` of its own.
 //!
-//! - [`Store`] keeps the rows; [`Batch`] brings rows to it, [`Limits`] the settings; [`Report`] tells what became of
-//!   them.
+//! - [`Store`] keeps the rows, logged and held; [`Batch`] brings rows to it, [`Request`] the time and the settings, its
+//!   [`Limits`]; [`Report`] tells what became of them.
 //! - [`Delta`] is what a peer lacks, [`Peer`] what is known about one.
 //! - [`HybridClock`] stamps an author's rows, [`VectorClock`] says how far each author's rows are known.
 //! - [`Reader`], [`Writer`] and [`Envelope`] serve the frames between peers.
 //!
-//! Every call answers with a `Result`. A [`Refusal`] has a number, from 1 to 25, and values; it changes nothing, and
-//! nothing panics. The numbers behind a call's description, as in "2, 1", are those that it may be refused with.
-//! "Document 01" in these pages is the project's scope, which fixes them.
+//! Every call answers with a `Result`. A [`Refusal`] has a number and values; it changes nothing, and nothing panics. The
+//! numbers behind a call's description, as in "2, 1", are those that it may be refused with. "Document 01" in these pages
+//! is the project's scope, which fixes them.
 //!
 //! In the repository docs/GUIDE.md goes through all of this from the start, and docs/LAYOUT.md says what each byte of
 //! an area is.
@@ -18,8 +18,8 @@
 //! # A server's loop
 //!
 //! ```
-//! use cuwelfra::{ActorId, Batch, Limits, Outcome, Peer, Refusal, Row, Store, Timestamp};
-//! use cuwelfra::{HEAD_BYTES, HELD_BYTES, SLOT_BYTES};
+//! use cuwelfra::{ActorId, Batch, Outcome, Peer, Refusal, Report, Request, Row, Slot, Store, Timestamp};
+//! use cuwelfra::{HEAD_BYTES, HELD_BYTES, MAX_BATCH, SLOT_BYTES};
 //!
 //! // The server's own: is this its author's signature, and does the glossary take the row?
 //! fn verify(row: &Row) -> bool {
@@ -29,51 +29,66 @@
 //!     Ok(())
 //! }
 //!
-//! // Load the three areas. Zeros are the empty store, here with room for 16 rows.
-//! let (log, held, head) = (vec![0; 16 * SLOT_BYTES], vec![0; HELD_BYTES], vec![0; HEAD_BYTES]);
+//! /// Takes rows in, at most 64 of them, but for those with a bad signature.
+//! fn take_in(store: &mut Store, mut rows: Vec<Row>, time_ms: u64) -> Result<Report, Refusal> {
+//!     loop {
+//!         let mut batch = Batch::new();
+//!         for row in &rows {
+//!             batch.push(row, verify(row), judge(row))?;
+//!         }
+//!         match store.apply_remote_ops(&Request::at(time_ms), &batch) {
+//!             // A batch is merged whole or not at all: offer the rest without this row.
+//!             Err(Refusal::BadSignature { actor, seq }) => {
+//!                 rows.retain(|row| (row.actor, row.seq) != (actor, seq));
+//!             }
+//!             told => return told,
+//!         }
+//!     }
+//! }
+//!
+//! // Load the three areas. Zeros are the empty store, here with room for 100 rows.
+//! let (log, held, head) = (vec![0; 100 * SLOT_BYTES], vec![0; HELD_BYTES], vec![0; HEAD_BYTES]);
 //! let mut store = Store::from_areas(log, held, head);
 //! store.check()?;
 //!
 //! // Rows come in; the second has a bad signature.
-//! let mut rows = vec![
+//! let rows = vec![
 //!     Row::new(Timestamp::new(10, 0, ActorId(1)), 1, "Kette = chain").signed([7]),
 //!     Row::new(Timestamp::new(20, 0, ActorId(2)), 1, "Rad = wheel").signed([8]),
 //! ];
-//! let report = loop {
-//!     let mut batch = Batch::new();
-//!     for row in &rows {
-//!         batch.push(row, verify(row), judge(row))?;
-//!     }
-//!     match store.apply_remote_ops(&Limits::default(), 1_000, batch.bytes()) {
-//!         Ok(report) => break report,
-//!         // A batch is merged whole or not at all: offer the rest without this row.
-//!         Err(Refusal::BadSignature { actor, seq }) => {
-//!             rows.retain(|row| (row.actor, row.seq) != (actor, seq));
-//!         }
-//!         Err(refusal) => {
-//!             eprintln!("{refusal}. {} {}", refusal.meaning(), refusal.advice());
-//!             return Err(refusal);
-//!         }
-//!     }
-//! };
-//! assert_eq!((report.applied, report.held), (1, 0));
+//! match take_in(&mut store, rows, 1_000) {
+//!     Ok(report) => assert_eq!((report.applied, report.held), (1, 0)),
+//!     Err(refusal) => eprintln!("{refusal}. {} {}", refusal.meaning(), refusal.advice()),
+//! }
+//!
+//! // Rows of its own.
+//! for seq in 1..=80 {
+//!     let row = Row::new(Timestamp::new(1_000, seq as u32, ActorId(3)), seq, "Speiche = spoke");
+//!     store.insert(&Slot::logged(&row.signed([7]))?)?;
+//! }
 //!
 //! // Save the areas.
 //! let (log, held, head) = store.areas();
-//! assert_eq!(log.len(), 16 * SLOT_BYTES);
+//! assert_eq!(log.len(), 100 * SLOT_BYTES);
 //!
-//! // Send a peer what it lacks, in messages of at most 100 rows and 65,536 bytes.
+//! // Send a peer what it lacks, at most 64 rows and 65,536 bytes at a time: a batch takes no more rows. The peer makes a
+//! // batch of each message, and has another store.
 //! let mut peer = Peer::new(ActorId(9));
-//! for rows in store.delta(&peer.remote_clock())?.chunks(100, 65_536)? {
-//!     assert_eq!(rows.len(), 1);
+//! let mut its_store = Store::with_capacity(100)?;
+//! let messages = store.delta(&peer.remote_clock())?.chunks(MAX_BATCH as u64, 65_536)?;
+//! assert_eq!(messages.iter().map(Vec::len).collect::<Vec<_>>(), [64, 17]);
+//! for rows in messages {
+//!     let sent = rows.len();
+//!     assert_eq!(take_in(&mut its_store, rows, 2_000)?.applied, sent);
 //! }
 //! // It acknowledges with its clock, and lacks nothing.
-//! peer.absorb_clock(&store.clock()?)?;
+//! peer.absorb_clock(&its_store.clock()?)?;
+//! peer.mark_up_to_date()?;
 //! assert!(store.delta(&peer.remote_clock())?.is_empty());
+//! assert_eq!(its_store.logged()?, store.logged()?);
 //! # Ok::<(), Refusal>(())
 //! ```
 
-#![deny(warnings, missing_docs)]
 #![forbid(unsafe_code)]
 #![cfg_attr(
     not(test),
@@ -85,44 +100,41 @@
     )
 )]
 
+mod actor;
 mod batch;
 mod clock;
 mod codec;
 mod delta;
-mod explained;
 mod file;
 mod merge;
+mod outcome;
 mod peer;
 mod refusal;
 mod row;
 mod store;
 mod words;
 
-use std::fmt;
-
-pub use batch::{ApplyError, Batch, BatchRow, Outcome, MAX_BATCH};
-pub use clock::{CausalOrder, HybridClock, Timestamp, VectorClock, CLOCK_BYTES, MAX_AUTHORS};
+pub use actor::ActorId;
+pub use batch::{Batch, BatchRow, MAX_BATCH};
+pub use clock::{CausalOrder, HybridClock, HybridParts, ParseTimestampError};
+pub use clock::{Timestamp, VectorClock, CLOCK_BYTES, MAX_AUTHORS};
 pub use codec::{varint_len, Envelope, Reader, Writer, MAX_BODY, MAX_BODY_SIGNATURE};
 pub use cuwelfra_sys::Told;
 pub use delta::Delta;
-pub use explained::Explained;
 pub use file::{FileError, Update};
-pub use merge::{Fate, Limits, Logged, Report, LINE_BYTES};
+pub use merge::{Fate, Limits, Logged, Report, Request, LINE_BYTES};
+pub use outcome::{ApplyError, Outcome};
 pub use peer::{Peer, PeerState, MAX_PINGS, PEER_BYTES};
-pub use refusal::Refusal;
+pub use refusal::{Explained, Refusal};
 pub use row::{HeldRow, Row, Slot, SlotRead};
 pub use row::{MAX_DEPS, MAX_OP_BYTES, MAX_PAYLOAD, MAX_SIGNATURE, SLOT_BYTES};
-pub use store::{Found, Place, Store, HEAD_BYTES, HELD_BYTES, MAX_HELD, MAX_LOGGED};
+pub use store::{Found, Place, Store};
+pub use store::{HEAD_BYTES, HELD_BYTES, MAX_HELD, MAX_LOGGED, SCRATCH_BYTES};
 
-/// Identifies an author.
-#[derive(Clone, Copy, Debug, Default, PartialEq, Eq, PartialOrd, Ord, Hash)]
-pub struct ActorId(pub u64);
-
-impl fmt::Display for ActorId {
-    fn fmt(&self, f: &mut fmt::Formatter<'_>) -> fmt::Result {
-        self.0.fmt(f)
-    }
-}
+/// The guide's examples are compiled with those of this crate.
+#[cfg(doctest)]
+#[doc = include_str!("../../../docs/GUIDE.md")]
+struct Guide;
 
 #[cfg(test)]
 mod tests {
@@ -136,8 +148,17 @@ mod tests {
         natural::<Batch>();
         natural::<Report>();
         natural::<Delta<'static>>();
-        natural::<(Refusal, Limits, HybridClock, VectorClock)>();
+        natural::<(Refusal, Limits, Request, HybridClock, VectorClock)>();
         natural::<(Peer, Slot, Row)>();
         natural::<Reader<'static>>();
+    }
+
+    /// Compiles only where they may be keys.
+    #[test]
+    fn what_is_compared_may_be_a_key() {
+        fn key<T: Eq + std::hash::Hash>() {}
+        key::<(Refusal, ApplyError, Fate, PeerState)>();
+        key::<(ActorId, Timestamp, VectorClock, HybridClock)>();
+        key::<(Row, Limits, Request)>();
     }
 }

@@ -3,7 +3,7 @@
 use cuwelfra_sys as sys;
 
 use crate::clock::number;
-use crate::words::{size, word};
+use crate::words::{set_word, size, small, word};
 use crate::{ActorId, Refusal, Store, VectorClock};
 
 /// Bytes of a peer area.
@@ -11,6 +11,7 @@ pub const PEER_BYTES: usize = 704;
 /// Pings that are kept while they wait, and after they were answered.
 pub const MAX_PINGS: usize = 8;
 
+const STATE: usize = 8;
 const CLOCK: usize = 16;
 const LAST_SEEN: usize = 536;
 const LAST_PING: usize = 544;
@@ -19,7 +20,8 @@ const ANSWERED: usize = 624;
 const LAST_HELLO: usize = 696;
 
 /// Connection status of a peer.
-#[derive(Clone, Copy, Debug, PartialEq, Eq)]
+#[derive(Clone, Copy, Debug, PartialEq, Eq, Hash)]
+#[non_exhaustive]
 pub enum PeerState {
     /// The transport is not up yet.
     Connecting,
@@ -49,6 +51,11 @@ pub enum PeerState {
 /// // The same pong once more is a repeat; any other was not asked for.
 /// assert_eq!(peer.take_pong(1_500), Ok(()));
 /// assert_eq!(peer.take_pong(1_501), Err(Refusal::UnaskedPong));
+///
+/// // Its acknowledgement comes.
+/// peer.mark_seen(1_600)?;
+/// peer.mark_up_to_date()?;
+/// assert_eq!((peer.state(), peer.last_seen_ms()), (Ok(PeerState::UpToDate), 1_600));
 /// # Ok::<(), Refusal>(())
 /// ```
 #[derive(Clone, Debug, PartialEq, Eq)]
@@ -59,7 +66,7 @@ impl Peer {
     pub fn new(id: ActorId) -> Self {
         let mut area = [0; PEER_BYTES];
         // Nothing is refused: the area has its size.
-        sys::peer_new(&mut area, id.0);
+        let _ = sys::peer_new(&mut area, id.0);
         Self(area)
     }
 
@@ -80,7 +87,7 @@ impl Peer {
 
     /// Connection status; 1 where the area has none of the four.
     pub fn state(&self) -> Result<PeerState, Refusal> {
-        Ok(match word(&self.0, 8) {
+        Ok(match word(&self.0, STATE) {
             0 => PeerState::Connecting,
             1 => PeerState::Syncing,
             2 => PeerState::UpToDate,
@@ -130,6 +137,12 @@ impl Peer {
         }
     }
 
+    /// Whether the area keeps the rules; 1.
+    pub fn check(&self) -> Result<(), Refusal> {
+        // No timer is ahead of the last time, so that this call tests the rules and changes nothing.
+        Refusal::check(sys::peer_rebase_timers(&mut self.0.clone(), u64::MAX))
+    }
+
     /// Marks the start of a handshake; 1.
     pub fn connection_started(&mut self, now: u64) -> Result<(), Refusal> {
         Refusal::check(sys::peer_connection_started(&mut self.0, now))
@@ -138,6 +151,32 @@ impl Peer {
     /// Marks the link as lost; 1.
     pub fn connection_lost(&mut self) -> Result<(), Refusal> {
         Refusal::check(sys::peer_connection_lost(&mut self.0))
+    }
+
+    /// Marks the peer as up to date, which it is once it has acknowledged our clock; 1.
+    ///
+    /// This and the two calls below set one number of the area each, as the original's engine sets the public fields of
+    /// its `Peer`: `state`, `last_seen_ms` and `last_hello_ms`. Any state may have gone before, and a time may be earlier
+    /// than the one that stood there.
+    pub fn mark_up_to_date(&mut self) -> Result<(), Refusal> {
+        self.set(STATE, 2)
+    }
+
+    /// Notes that a frame of the peer came at `now`; 1.
+    pub fn mark_seen(&mut self, now: u64) -> Result<(), Refusal> {
+        self.set(LAST_SEEN, now)
+    }
+
+    /// Notes that a hello was sent at `now`; 1.
+    pub fn mark_hello(&mut self, now: u64) -> Result<(), Refusal> {
+        self.set(LAST_HELLO, now)
+    }
+
+    /// Sets a word that the rules leave free, or a state that they know: an area that keeps them keeps them.
+    fn set(&mut self, at: usize, value: u64) -> Result<(), Refusal> {
+        self.check()?;
+        set_word(&mut self.0, at, value);
+        Ok(())
     }
 
     /// Raises the remote clock to another; 1, 18.
@@ -167,6 +206,74 @@ impl Peer {
 
     /// How many logged rows the peer has not acknowledged; 2, 1.
     pub fn pending_ops(&self, store: &Store) -> Result<usize, Refusal> {
-        number(sys::peer_pending_ops(&self.0, store.lent())).map(size)
+        number(sys::peer_pending_ops(&self.0, store.lent())).and_then(small)
+    }
+}
+
+#[cfg(test)]
+mod tests {
+    use super::*;
+
+    /// The area of a peer with pings and a clock, syncing since 70.
+    fn area() -> Result<[u8; PEER_BYTES], Refusal> {
+        let mut clock = VectorClock::new();
+        clock.observe(ActorId(3), 4)?;
+        let mut peer = Peer::new(ActorId(2));
+        peer.connection_started(70)?;
+        peer.replace_clock(&clock)?;
+        peer.record_ping(80)?;
+        Ok(*peer.area())
+    }
+
+    type Mark = fn(&mut Peer) -> Result<(), Refusal>;
+    const MARKS: [(Mark, usize, u64); 3] = [
+        (|peer| peer.mark_up_to_date(), 8, 2),
+        (|peer| peer.mark_seen(60), 536, 60),
+        (|peer| peer.mark_hello(u64::MAX), 696, u64::MAX),
+    ];
+
+    #[test]
+    fn a_mark_sets_its_word_and_keeps_the_rules() -> Result<(), Refusal> {
+        for (mark, at, value) in MARKS {
+            let mut peer = Peer::from_area(area()?);
+            mark(&mut peer)?;
+            let mut wanted = area()?;
+            wanted[at..at + 8].copy_from_slice(&value.to_be_bytes());
+            assert_eq!(*peer.area(), wanted);
+            assert_eq!(peer.check(), Ok(()));
+        }
+        let mut peer = Peer::from_area(area()?);
+        peer.mark_up_to_date()?;
+        peer.connection_lost()?;
+        assert_eq!(peer.state(), Ok(PeerState::Disconnected));
+        peer.mark_up_to_date()?;
+        assert_eq!(peer.state(), Ok(PeerState::UpToDate));
+        Ok(())
+    }
+
+    /// A state, a clock's count and two lists' counts that cannot be: also a mark that would overwrite the fault.
+    #[test]
+    fn a_damaged_peer_is_not_marked() -> Result<(), Refusal> {
+        for (at, value) in [(8, 4), (16, 33), (552, 9), (624, 9)] {
+            let mut damaged = area()?;
+            set_word(&mut damaged, at, value);
+            let mut peer = Peer::from_area(damaged);
+            assert_eq!(peer.check(), Err(Refusal::UnsoundStore));
+            for (mark, ..) in MARKS {
+                assert_eq!(mark(&mut peer), Err(Refusal::UnsoundStore));
+                assert_eq!(*peer.area(), damaged);
+            }
+        }
+        Ok(())
+    }
+
+    #[test]
+    fn a_check_changes_nothing() -> Result<(), Refusal> {
+        let mut far = area()?;
+        set_word(&mut far, LAST_SEEN, u64::MAX);
+        let peer = Peer::from_area(far);
+        assert_eq!(peer.check(), Ok(()));
+        assert_eq!(*peer.area(), far);
+        Ok(())
     }
 }

@@ -2,10 +2,10 @@
 
 use cuwelfra_sys as sys;
 
-use crate::batch::{outcome_of, parts_of};
 use crate::clock::pairs;
 use crate::codec::next;
-use crate::words::{part, set_bytes, set_word, size, word};
+use crate::outcome::{outcome_of, parts_of};
+use crate::words::{flag, part, set_bytes, set_word, size, within, word};
 use crate::{ActorId, Outcome, Refusal, Timestamp};
 
 /// Bytes of a slot.
@@ -73,12 +73,14 @@ impl Row {
     }
 
     /// The row with one more dependency, on a greater author than those before.
+    #[must_use]
     pub fn needs(mut self, actor: ActorId, seq: u64) -> Self {
         self.deps.push((actor, seq));
         self
     }
 
     /// The row with this signature.
+    #[must_use]
     pub fn signed(mut self, signature: impl Into<Vec<u8>>) -> Self {
         self.signature = signature.into();
         self
@@ -96,6 +98,7 @@ impl Row {
 
 /// A row with its arrival and what came with it in its batch. A logged row has arrival 0 and fits.
 #[derive(Clone, Debug, PartialEq, Eq)]
+#[non_exhaustive]
 pub struct HeldRow {
     /// The row.
     pub row: Row,
@@ -103,6 +106,17 @@ pub struct HeldRow {
     pub arrived_ms: u64,
     /// What policy and state said of it.
     pub outcome: Outcome,
+}
+
+impl HeldRow {
+    /// The row, when it arrived, in ms, and what policy and state said of it.
+    pub fn new(row: Row, arrived_ms: u64, outcome: Outcome) -> Self {
+        Self {
+            row,
+            arrived_ms,
+            outcome,
+        }
+    }
 }
 
 /// A slot that was read from a batch.
@@ -200,25 +214,30 @@ impl Slot {
 
     /// Writes what is signed at the start of `out` and gives its length; 1, 2.
     pub fn unsigned_op(&self, out: &mut [u8]) -> Result<usize, Refusal> {
-        next(sys::unsigned_op(&self.0, out))
+        next(sys::unsigned_op(&self.0, out), out.len())
     }
 
     /// The same with the signature; 1, 2.
     pub fn signed_op(&self, out: &mut [u8]) -> Result<usize, Refusal> {
-        next(sys::signed_op(&self.0, out))
+        next(sys::signed_op(&self.0, out), out.len())
     }
 
     /// Reads the batch row at `at`; 3, 4.
     pub fn read(batch: &[u8], at: usize) -> Result<SlotRead, Refusal> {
         let mut area = [0; SLOT_BYTES];
         let read = sys::read_op(batch, at, &mut area);
-        Refusal::check(read.told)?;
-        Ok(SlotRead {
-            slot: Self(area),
-            verdict: read.verdict == 1,
-            next: size(read.next),
-        })
+        slot_read(read, area, batch.len())
     }
+}
+
+/// What was read of a batch of so many bytes.
+fn slot_read(read: sys::OpTold, area: [u8; SLOT_BYTES], batch: usize) -> Result<SlotRead, Refusal> {
+    Refusal::check(read.told)?;
+    Ok(SlotRead {
+        slot: Slot(area),
+        verdict: flag(read.verdict)?,
+        next: within(read.next, batch)?,
+    })
 }
 
 /// The row in a slot; 1 where a number has no place in a row. That the slot is that row's is not tested.
@@ -228,7 +247,7 @@ pub(crate) fn row_in(area: &[u8; SLOT_BYTES]) -> Result<HeldRow, Refusal> {
 
 fn read(area: &[u8; SLOT_BYTES]) -> Option<HeldRow> {
     let bytes = |at: usize, len_at: usize| {
-        let bytes = part(area, at, word(area, len_at)).ok()?;
+        let bytes = part(area, at as u64, word(area, len_at)).ok()?;
         Some(bytes.to_vec())
     };
     let deps = size(word(area, DEPS_LEN));
@@ -278,15 +297,28 @@ mod tests {
         ];
         for row in [Row::new(Timestamp::new(0, 0, ActorId(0)), 0, ""), largest()] {
             for outcome in outcomes {
-                let held = HeldRow {
-                    row: row.clone(),
-                    arrived_ms: 3,
-                    outcome,
-                };
+                let held = HeldRow::new(row.clone(), 3, outcome);
                 assert_eq!(Slot::held(&held)?.row(), Ok(held));
             }
         }
         Ok(())
+    }
+
+    #[test]
+    fn verdicts_and_positions_are_read_strictly() {
+        let told = |next, verdict| {
+            let told = sys::Told::default();
+            let read = sys::OpTold {
+                told,
+                next,
+                verdict,
+            };
+            slot_read(read, [0; SLOT_BYTES], 9).map(|read| (read.next, read.verdict))
+        };
+        assert_eq!((told(9, 0), told(3, 1)), (Ok((9, false)), Ok((3, true))));
+        for (next, verdict) in [(9, 2), (9, u64::MAX), (10, 1)] {
+            assert_eq!(told(next, verdict), Err(Refusal::MisfitAnswer));
+        }
     }
 
     #[test]

@@ -6,9 +6,9 @@ use cuwelfra_sys as sys;
 
 use crate::clock::number;
 use crate::row::{row_in, PAYLOAD};
-use crate::words::{misfit, part, size};
+use crate::words::{flag, part, small, within};
 use crate::{ActorId, HeldRow, Refusal, Row, Slot, Timestamp, VectorClock};
-use crate::{CLOCK_BYTES, SLOT_BYTES};
+use crate::{CLOCK_BYTES, MAX_PAYLOAD, SLOT_BYTES};
 
 /// Rows of a log at most.
 pub const MAX_LOGGED: usize = 1_024;
@@ -18,34 +18,35 @@ pub const MAX_HELD: usize = 64;
 pub const HELD_BYTES: usize = MAX_HELD * SLOT_BYTES;
 /// Bytes of a head area.
 pub const HEAD_BYTES: usize = 2_120;
+/// Bytes of scratch that a batch call needs for each held and batch row.
+pub const SCRATCH_BYTES: usize = 704;
 
 /// A store in three areas: logged rows, held rows, and the head with counts, floor, clocks and watermarks.
 ///
-/// Every call refuses short areas, with 2, and all but [`Store::from_parts`] those that break the rules, with 1. A
+/// Every call refuses short areas, with 2, and all but [`Store::rebuild`] those that break the rules, with 1. A
 /// refusal leaves the store. Stores are equal when their areas are.
 ///
 /// ```
-/// use cuwelfra::{ActorId, Batch, Limits, Refusal, Row, Store, Timestamp};
+/// use cuwelfra::{ActorId, Batch, Refusal, Request, Row, Store, Timestamp};
 ///
-/// let limits = Limits::default();
 /// let mut store = Store::with_capacity(16)?;
 ///
 /// // Author 2's first row needs author 1's first, which is not here yet: it waits.
 /// let answer = Row::new(Timestamp::new(20, 0, ActorId(2)), 1, "Kette = chain").needs(ActorId(1), 1);
 /// let mut batch = Batch::new();
 /// batch.push(&answer, true, Ok(()))?;
-/// let report = store.apply_remote_ops(&limits, 1_000, batch.bytes())?;
+/// let report = store.apply_remote_ops(&Request::at(1_000), &batch)?;
 /// assert_eq!((report.applied, report.held), (0, 1));
-/// assert_eq!(store.pending()?[0].row, answer);
+/// assert_eq!(store.held()?[0].row, answer);
 ///
 /// // With it both are logged.
 /// let question = Row::new(Timestamp::new(10, 0, ActorId(1)), 1, "Kette = ?");
 /// let mut batch = Batch::new();
 /// batch.push(&question, true, Ok(()))?;
-/// let report = store.apply_remote_ops(&limits, 1_001, batch.bytes())?;
+/// let report = store.apply_remote_ops(&Request::at(1_001), &batch)?;
 /// assert_eq!((report.applied, report.held), (2, 0));
 /// assert_eq!(report.logged[1].actor, ActorId(2));
-/// assert_eq!(store.ops()?, [question, answer]);
+/// assert_eq!(store.logged()?, [question, answer]);
 /// assert_eq!(store.clock()?.get(ActorId(2)), Ok(1));
 /// # Ok::<(), Refusal>(())
 /// ```
@@ -71,8 +72,8 @@ impl fmt::Debug for Store {
     fn fmt(&self, f: &mut fmt::Formatter<'_>) -> fmt::Result {
         f.debug_struct("Store")
             .field("capacity", &self.capacity())
-            .field("logged", &self.log_len())
-            .field("held", &self.pending_len())
+            .field("logged", &self.logged_len())
+            .field("held", &self.held_len())
             .finish_non_exhaustive()
     }
 }
@@ -156,7 +157,7 @@ impl Store {
 
     /// The areas, and scratch for so many rows. It grows and is lent again, so that a call clears no more than it uses.
     pub(crate) fn lent_mut(&mut self, rows: usize) -> (sys::AreasMut<'_>, &mut [u8]) {
-        let needed = rows * SLOT_BYTES;
+        let needed = rows * SCRATCH_BYTES;
         if self.scratch.len() < needed {
             self.scratch.resize(needed, 0);
         }
@@ -176,7 +177,25 @@ impl Store {
 
     /// Makes the store anew, whatever it held: these logged rows, inserted one after the other, above this compacted
     /// clock, with no held row and no floor; 1, 17, 18.
-    pub fn from_parts(&mut self, rows: &[Slot], compacted: &VectorClock) -> Result<(), Refusal> {
+    ///
+    /// This is the original's `from_parts`.
+    ///
+    /// ```
+    /// use cuwelfra::{ActorId, Refusal, Row, Slot, Store, Timestamp, VectorClock};
+    ///
+    /// let row = Row::new(Timestamp::new(10, 0, ActorId(1)), 1, "Kette = chain");
+    /// let mut store = Store::with_capacity(16)?;
+    /// store.insert(&Slot::logged(&row)?)?;
+    /// let kept = store.logged()?;
+    ///
+    /// // Each row goes before its equals, so the last comes first.
+    /// let slots = kept.iter().rev().map(Slot::logged).collect::<Result<Vec<_>, _>>()?;
+    /// let mut again = Store::with_capacity(16)?;
+    /// again.rebuild(&slots, &store.compacted()?)?;
+    /// assert_eq!(again, store);
+    /// # Ok::<(), Refusal>(())
+    /// ```
+    pub fn rebuild(&mut self, rows: &[Slot], compacted: &VectorClock) -> Result<(), Refusal> {
         let parts: Vec<[u8; SLOT_BYTES]> = rows.iter().map(|slot| *slot.area()).collect();
         Refusal::check(sys::from_parts(
             &mut self.log,
@@ -194,47 +213,50 @@ impl Store {
     }
 
     /// How many rows are logged.
-    pub fn log_len(&self) -> Result<usize, Refusal> {
-        number(sys::log_len(self.lent())).map(size)
+    pub fn logged_len(&self) -> Result<usize, Refusal> {
+        number(sys::log_len(self.lent())).and_then(small)
     }
 
     /// How many rows are held.
-    pub fn pending_len(&self) -> Result<usize, Refusal> {
-        number(sys::pending_len(self.lent())).map(size)
+    pub fn held_len(&self) -> Result<usize, Refusal> {
+        number(sys::pending_len(self.lent())).and_then(small)
     }
 
     /// The logged rows, in log order.
-    pub fn ops(&self) -> Result<Vec<Row>, Refusal> {
-        let rows = first_rows(&self.log, self.log_len()?)?;
-        rows.iter()
-            .map(|slot| row_in(slot).map(|row| row.row))
-            .collect()
+    pub fn logged(&self) -> Result<Vec<Row>, Refusal> {
+        self.logged_slots()?.iter().map(logged_row).collect()
     }
 
     /// The held rows, by stamp, author and sequence.
-    pub fn pending(&self) -> Result<Vec<HeldRow>, Refusal> {
-        let rows = first_rows(&self.held, self.pending_len()?)?;
-        rows.iter().map(row_in).collect()
+    pub fn held(&self) -> Result<Vec<HeldRow>, Refusal> {
+        self.held_slots()?.iter().map(row_in).collect()
     }
 
-    /// The logged row at a position, `None` past the last. [`Store::ops`] gives all of them after one test of the
+    /// The logged row at a position, `None` past the last. [`Store::logged`] gives all of them after one test of the
     /// store.
-    pub fn logged(&self, position: usize) -> Result<Option<HeldRow>, Refusal> {
-        let rows = first_rows(&self.log, self.log_len()?)?;
-        rows.get(position).map(row_in).transpose()
+    pub fn logged_at(&self, position: usize) -> Result<Option<Row>, Refusal> {
+        let slots = self.logged_slots()?;
+        slots.get(position).map(logged_row).transpose()
     }
 
-    /// The held row at a position, `None` past the last. [`Store::pending`] gives all of them after one test of the
-    /// store.
-    pub fn held(&self, position: usize) -> Result<Option<HeldRow>, Refusal> {
-        let rows = first_rows(&self.held, self.pending_len()?)?;
-        rows.get(position).map(row_in).transpose()
+    /// The held row at a position, `None` past the last. [`Store::held`] gives all of them after one test of the store.
+    pub fn held_at(&self, position: usize) -> Result<Option<HeldRow>, Refusal> {
+        let slots = self.held_slots()?;
+        slots.get(position).map(row_in).transpose()
+    }
+
+    fn logged_slots(&self) -> Result<&[[u8; SLOT_BYTES]], Refusal> {
+        first_slots(&self.log, self.logged_len()?)
+    }
+
+    fn held_slots(&self) -> Result<&[[u8; SLOT_BYTES]], Refusal> {
+        first_slots(&self.held, self.held_len()?)
     }
 
     /// The row in a slot of the log that an answer names.
     pub(crate) fn row_at(&self, position: usize) -> Result<Row, Refusal> {
-        let slot = self.log.as_chunks().0.get(position).ok_or(misfit())?;
-        row_in(slot).map(|row| row.row)
+        let slot = self.log.as_chunks().0.get(position);
+        logged_row(slot.ok_or(Refusal::MisfitAnswer)?)
     }
 
     /// The floor.
@@ -280,7 +302,7 @@ impl Store {
 
     /// Whether a peer with this clock has all that was compacted.
     pub fn can_serve(&self, peer: &VectorClock) -> Result<bool, Refusal> {
-        number(sys::can_serve(self.lent(), peer.area())).map(|answer| answer == 1)
+        number(sys::can_serve(self.lent(), peer.area())).and_then(flag)
     }
 
     /// Looks a row up among the logged, first place first, then the held.
@@ -297,16 +319,22 @@ impl Store {
     /// # Ok::<(), Refusal>(())
     /// ```
     pub fn lookup(&self, actor: ActorId, seq: u64) -> Result<Option<Found<'_>>, Refusal> {
-        let told = sys::lookup(self.lent(), actor.0, seq);
+        self.found(sys::lookup(self.lent(), actor.0, seq))
+    }
+
+    fn found(&self, told: sys::LookupTold) -> Result<Option<Found<'_>>, Refusal> {
         Refusal::check(told.told)?;
-        let slot = size(told.slot);
+        let slot = small(told.slot)?;
         let (area, place) = match told.place {
             0 => return Ok(None),
             1 => (&self.log, Place::Logged(slot)),
-            _ => (&self.held, Place::Held(slot)),
+            2 => (&self.held, Place::Held(slot)),
+            _ => return Err(Refusal::MisfitAnswer),
         };
-        let at = slot.saturating_mul(SLOT_BYTES).saturating_add(PAYLOAD);
-        let payload = part(area, at, told.len)?;
+        let slots: &[[u8; SLOT_BYTES]] = area.as_chunks().0;
+        let slot = slots.get(slot).ok_or(Refusal::MisfitAnswer)?;
+        let len = within(told.len, MAX_PAYLOAD)? as u64;
+        let payload = part(slot, PAYLOAD as u64, len)?;
         Ok(Some(Found { place, payload }))
     }
 
@@ -338,14 +366,14 @@ impl Store {
     /// if let Some(cutoff) = cutoff {
     ///     assert_eq!(store.compact(&cutoff), Ok(2));
     /// }
-    /// assert_eq!(store.log_len(), Ok(1));
+    /// assert_eq!(store.logged_len(), Ok(1));
     /// // A peer that has nothing cannot be served from this log any more.
     /// assert_eq!(store.can_serve(&VectorClock::new()), Ok(false));
     /// # Ok::<(), Refusal>(())
     /// ```
     pub fn compact(&mut self, cutoff: &Timestamp) -> Result<usize, Refusal> {
         let removed = sys::compact(&mut self.log, &self.held, &mut self.head, cutoff.parts());
-        number(removed).map(size)
+        number(removed).and_then(small)
     }
 
     /// The latest stamp that is safe to compact to, where all peers have what `frontier` says.
@@ -355,8 +383,13 @@ impl Store {
 }
 
 /// So many slots from the start of an area.
-fn first_rows(area: &[u8], rows: usize) -> Result<&[[u8; SLOT_BYTES]], Refusal> {
-    area.as_chunks().0.get(..rows).ok_or(misfit())
+fn first_slots(area: &[u8], count: usize) -> Result<&[[u8; SLOT_BYTES]], Refusal> {
+    let slots = area.as_chunks().0.get(..count);
+    slots.ok_or(Refusal::MisfitAnswer)
+}
+
+fn logged_row(slot: &[u8; SLOT_BYTES]) -> Result<Row, Refusal> {
+    row_in(slot).map(|held| held.row)
 }
 
 fn clock(call: impl FnOnce(&mut [u8]) -> sys::Told) -> Result<VectorClock, Refusal> {
@@ -369,16 +402,16 @@ fn stamp(told: sys::StampTold) -> Result<Option<Timestamp>, Refusal> {
     Refusal::check(told.told)?;
     let stamp = Timestamp::new(
         told.wall_time,
-        told.logical_counter as u32,
+        small(told.logical_counter)?,
         ActorId(told.actor_id),
     );
-    Ok((told.present == 1).then_some(stamp))
+    Ok(flag(told.present)?.then_some(stamp))
 }
 
 #[cfg(test)]
 mod tests {
     use super::*;
-    use crate::{Batch, Limits};
+    use crate::{Batch, Request};
 
     /// Rows of author 1 with these sequences.
     fn batch(seqs: impl IntoIterator<Item = u64>) -> Result<Batch, Refusal> {
@@ -393,7 +426,7 @@ mod tests {
     /// A store with a row logged and one that waits.
     fn store() -> Result<Store, Refusal> {
         let mut store = Store::with_capacity(4)?;
-        store.apply_remote_ops(&Limits::default(), 100, batch([1, 3])?.bytes())?;
+        store.apply_remote_ops(&Request::at(100), batch([1, 3])?)?;
         Ok(store)
     }
 
@@ -402,9 +435,9 @@ mod tests {
         let batch = batch(2..66)?;
         let mut store = Store::with_capacity(1)?;
         for (duplicates, rows) in [(0, 64), (64, 128)] {
-            let report = store.apply_remote_ops(&Limits::default(), 100, batch.bytes())?;
+            let report = store.apply_remote_ops(&Request::at(100), &batch)?;
             assert_eq!((report.duplicates, report.held), (duplicates, 64));
-            assert_eq!(store.scratch.len(), rows * SLOT_BYTES);
+            assert_eq!(store.scratch.len(), rows * SCRATCH_BYTES);
         }
         Ok(())
     }
@@ -412,7 +445,7 @@ mod tests {
     #[test]
     fn scratch_is_left_zero_and_is_not_compared() -> Result<(), Refusal> {
         let store = store()?;
-        assert_eq!(store.scratch, [0; 2 * SLOT_BYTES]);
+        assert_eq!(store.scratch, [0; 2 * SCRATCH_BYTES]);
         let (log, held, head) = store.clone().into_areas();
         let taken = Store::from_areas(log, held, head);
         assert_eq!(taken.scratch, []);
@@ -434,13 +467,78 @@ mod tests {
     #[test]
     fn rows_by_position_are_the_rows_in_order() -> Result<(), Refusal> {
         let store = store()?;
-        let logged = store.logged(0)?.map(|row| row.row);
-        assert_eq!(store.ops()?, Vec::from_iter(logged));
-        assert_eq!(store.pending()?, Vec::from_iter(store.held(0)?));
-        assert_eq!(store.logged(1), Ok(None));
-        assert_eq!(store.held(1), Ok(None));
-        assert_eq!(store.pending()?[0].arrived_ms, 100);
+        assert_eq!((store.logged_len(), store.held_len()), (Ok(1), Ok(1)));
+        assert_eq!(store.logged()?, Vec::from_iter(store.logged_at(0)?));
+        assert_eq!(store.held()?, Vec::from_iter(store.held_at(0)?));
+        assert_eq!((store.logged()?[0].seq, store.held()?[0].row.seq), (1, 3));
+        assert_eq!(store.logged_at(1), Ok(None));
+        assert_eq!(store.held_at(1), Ok(None));
+        assert_eq!(store.held()?[0].arrived_ms, 100);
         Ok(())
+    }
+
+    #[test]
+    fn a_store_is_rebuilt_whatever_it_held() -> Result<(), Refusal> {
+        let mut store = store()?;
+        let row = Row::new(Timestamp::new(7, 0, ActorId(2)), 4, "Rad");
+        let mut compacted = VectorClock::new();
+        compacted.observe(ActorId(2), 3)?;
+        store.rebuild(&[Slot::logged(&row)?], &compacted)?;
+        assert_eq!(store.logged()?, [row]);
+        assert_eq!((store.held_len(), store.floor()), (Ok(0), Ok(None)));
+        assert_eq!(store.compacted()?, compacted);
+        Ok(())
+    }
+
+    /// Places and slots that there are not, and more payload than a slot has.
+    #[test]
+    fn a_place_that_is_none_is_no_answer() -> Result<(), Refusal> {
+        let store = store()?;
+        let found = |place, slot, len| {
+            let told = sys::Told::default();
+            let answer = sys::LookupTold {
+                told,
+                place,
+                slot,
+                len,
+            };
+            let found = store.found(answer);
+            found.map(|found| found.map(|found| (found.place, found.payload.len())))
+        };
+        assert_eq!(found(0, 0, 0), Ok(None));
+        assert_eq!(found(1, 3, 5), Ok(Some((Place::Logged(3), 5))));
+        assert_eq!(found(2, 63, 256), Ok(Some((Place::Held(63), 256))));
+        let misfits = [
+            (3, 0, 0),
+            (u64::MAX, 0, 0),
+            (1, 4, 0),
+            (2, 64, 0),
+            (2, u64::MAX, 0),
+            (1, 0, 257),
+        ];
+        for (place, slot, len) in misfits {
+            assert_eq!(found(place, slot, len), Err(Refusal::MisfitAnswer));
+        }
+        Ok(())
+    }
+
+    #[test]
+    fn a_stamp_is_read_strictly() {
+        let read = |present, logical_counter| {
+            stamp(sys::StampTold {
+                told: sys::Told::default(),
+                present,
+                wall_time: 5,
+                logical_counter,
+                actor_id: 6,
+            })
+        };
+        let wanted = Timestamp::new(5, u32::MAX, ActorId(6));
+        assert_eq!(read(1, 0xffff_ffff), Ok(Some(wanted)));
+        assert_eq!(read(0, 0), Ok(None));
+        for (present, counter) in [(2, 0), (u64::MAX, 0), (1, 1 << 32)] {
+            assert_eq!(read(present, counter), Err(Refusal::MisfitAnswer));
+        }
     }
 
     #[test]
@@ -451,9 +549,9 @@ mod tests {
                     let areas = [log, held, head].map(|len| vec![0xff; len]);
                     let [log, held, head] = areas;
                     let mut store = Store::from_areas(log, held, head);
-                    let told = store.apply_remote_ops(&Limits::default(), 0, &[0xff]);
+                    let told = store.apply_remote_ops(&Request::at(0), [0xff]);
                     assert_eq!(told, Err(Refusal::ShortArea));
-                    assert_eq!(store.ops(), Err(Refusal::ShortArea));
+                    assert_eq!(store.logged(), Err(Refusal::ShortArea));
                 }
             }
         }

@@ -1,6 +1,6 @@
-//! Big-endian words of lent areas, and numbers of answers as sizes and parts.
-
-use cuwelfra_sys::Told;
+//! Big-endian words of lent areas, and numbers of answers as what they stand for.
+//!
+//! An answer is decoded strictly: a number that has no meaning where it stands is [`Refusal::MisfitAnswer`].
 
 use crate::Refusal;
 
@@ -24,26 +24,47 @@ pub(crate) fn set_bytes(area: &mut [u8], at: usize, bytes: &[u8]) {
     }
 }
 
-/// A number that counts what stands in memory.
+/// A count in an area, where what is too large for memory is as large as can be.
 pub(crate) fn size(number: u64) -> usize {
     usize::try_from(number).unwrap_or(usize::MAX)
 }
 
-/// The part of lent bytes that an answer names.
-pub(crate) fn part(bytes: &[u8], start: usize, len: u64) -> Result<&[u8], Refusal> {
-    let rest = bytes.get(start..);
-    let part = rest.and_then(|rest| rest.get(..size(len)));
-    part.ok_or(misfit())
+/// A number of an answer as one of fewer bits.
+pub(crate) fn small<T: TryFrom<u64>>(number: u64) -> Result<T, Refusal> {
+    T::try_from(number).map_err(|_| Refusal::MisfitAnswer)
 }
 
-/// The refusal of an answer whose values do not fit what was lent.
-pub(crate) fn misfit() -> Refusal {
-    Refusal::UnknownAnswer(Told::default())
+/// An answer that is 0 for no and 1 for yes.
+pub(crate) fn flag(number: u64) -> Result<bool, Refusal> {
+    match number {
+        0 => Ok(false),
+        1 => Ok(true),
+        _ => Err(Refusal::MisfitAnswer),
+    }
+}
+
+/// A count or position of an answer, which the length of what was lent bounds.
+pub(crate) fn within(number: u64, most: usize) -> Result<usize, Refusal> {
+    let size = small(number)?;
+    match size <= most {
+        true => Ok(size),
+        false => Err(Refusal::MisfitAnswer),
+    }
+}
+
+/// The part of lent bytes that an answer names.
+pub(crate) fn part(bytes: &[u8], start: u64, len: u64) -> Result<&[u8], Refusal> {
+    let (start, len): (usize, usize) = (small(start)?, small(len)?);
+    let rest = bytes.get(start..);
+    let part = rest.and_then(|rest| rest.get(..len));
+    part.ok_or(Refusal::MisfitAnswer)
 }
 
 #[cfg(test)]
 mod tests {
     use super::*;
+
+    const MISFIT: Refusal = Refusal::MisfitAnswer;
 
     #[test]
     fn words_past_the_end_are_zero_and_are_not_written() {
@@ -59,10 +80,26 @@ mod tests {
     }
 
     #[test]
+    fn a_number_that_does_not_fit_is_no_answer() {
+        assert_eq!(small(255), Ok(u8::MAX));
+        assert_eq!(small::<u8>(256), Err(MISFIT));
+        assert_eq!(small(0xffff_ffff), Ok(u32::MAX));
+        assert_eq!(small::<u32>(1 << 32), Err(MISFIT));
+        assert_eq!((flag(0), flag(1)), (Ok(false), Ok(true)));
+        assert_eq!((flag(2), flag(u64::MAX)), (Err(MISFIT), Err(MISFIT)));
+        assert_eq!((within(0, 0), within(3, 3)), (Ok(0), Ok(3)));
+        assert_eq!(
+            (within(4, 3), within(u64::MAX, 3)),
+            (Err(MISFIT), Err(MISFIT))
+        );
+    }
+
+    #[test]
     fn a_part_outside_what_was_lent_is_no_answer() {
         assert_eq!(part(b"abc", 1, 2), Ok(&b"bc"[..]));
-        for (start, len) in [(1, 3), (4, 0), (usize::MAX, u64::MAX)] {
-            assert_eq!(part(b"abc", start, len), Err(misfit()));
+        assert_eq!(part(b"abc", 3, 0), Ok(&b""[..]));
+        for (start, len) in [(1, 3), (4, 0), (u64::MAX, u64::MAX)] {
+            assert_eq!(part(b"abc", start, len), Err(MISFIT));
         }
     }
 }

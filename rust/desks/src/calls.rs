@@ -1,6 +1,6 @@
 //! Batch calls, and what they told.
 
-use cuwelfra::{Limits, Refusal, Report, Store};
+use cuwelfra::{Refusal, Report, Request, Store};
 
 use crate::desk::{pack, Desk};
 use crate::text::Offer;
@@ -43,7 +43,7 @@ pub fn offer<'a>(
 fn call(store: &mut Store, offer: &Offer, time_ms: u64) -> Result<Report, Refusal> {
     let batch = pack(&offer.rows)?;
     let time_ms = offer.time_ms.unwrap_or(time_ms);
-    store.apply_remote_ops(&Limits::default(), time_ms, batch.bytes())
+    store.apply_remote_ops(&Request::at(time_ms), &batch)
 }
 
 /// Whether no call was refused.

@@ -1,7 +1,6 @@
 //! Joins desks' batches into stores on disk and shows what is in them. `./run` at the top of the repository builds and
 //! starts it; help.txt lists the commands.
 
-#![deny(warnings)]
 #![forbid(unsafe_code)]
 #![cfg_attr(
     not(test),

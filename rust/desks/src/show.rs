@@ -73,7 +73,9 @@ fn logged(logged: &Logged) -> String {
     match logged.fate {
         Fate::Applied => row,
         Fate::Rejected(error) => format!("{row} ({})", answer(error)),
-        other => format!("{row} ({})", format!("{other:?}").to_lowercase()),
+        Fate::Stale => format!("{row} (stale)"),
+        // A later version's.
+        fate => format!("{row} (fate {})", fate.byte()),
     }
 }
 

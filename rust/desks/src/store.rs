@@ -79,7 +79,7 @@ pub struct View {
 impl View {
     pub fn of(store: &Store) -> Result<Self, Refusal> {
         let clock = store.clock()?;
-        let held = store.pending()?.into_iter().map(|held| {
+        let held = store.held()?.into_iter().map(|held| {
             let causes = causes(&held.row, &clock)?;
             Ok(Waiting {
                 row: held.row,
@@ -87,7 +87,7 @@ impl View {
             })
         });
         Ok(Self {
-            log: store.ops()?,
+            log: store.logged()?,
             held: held.collect::<Result<_, Refusal>>()?,
             clock: clock.entries()?,
         })

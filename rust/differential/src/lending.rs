@@ -41,7 +41,7 @@ pub fn call(areas: &mut Areas, lent: &Lent) -> Answered {
         head: &mut areas.head,
     };
     let told = sys::apply_remote_ops(
-        lent.limits.numbers(),
+        lent.limits.settings(),
         lent.time,
         store,
         &lent.batch,

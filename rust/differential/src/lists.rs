@@ -203,15 +203,14 @@ fn limits(rng: &mut Rng) -> Limits {
         let from = if rng.once_in(14) { tight } else { wide };
         rng.pick(from)
     };
-    Limits {
-        max_pending: setting(&[64], &[0, 1, 2, 3]),
-        max_pending_per_actor: setting(&[64, u64::MAX], &[0, 1, 2]),
-        max_pending_bytes: setting(&[16_384, u64::MAX], &[0, 1, 2, 4]),
-        max_pending_age_ms: setting(&[3_600_000, u64::MAX, 4, 2], &[0, 1]),
-        max_drift_ms: setting(&[60_000, u64::MAX, 3], &[0, 1]),
-        max_deps: setting(&[16], &[0, 1, 2]),
-        max_payload: setting(&[256], &[0, 1, 2]),
-    }
+    Limits::new()
+        .with_max_pending(setting(&[64], &[0, 1, 2, 3]))
+        .with_max_pending_per_actor(setting(&[64, u64::MAX], &[0, 1, 2]))
+        .with_max_pending_bytes(setting(&[16_384, u64::MAX], &[0, 1, 2, 4]))
+        .with_max_pending_age_ms(setting(&[3_600_000, u64::MAX, 4, 2], &[0, 1]))
+        .with_max_drift_ms(setting(&[60_000, u64::MAX, 3], &[0, 1]))
+        .with_max_deps(setting(&[16], &[0, 1, 2]))
+        .with_max_payload(setting(&[256], &[0, 1, 2]))
 }
 
 /// Gives a row one of the faults 5 to 12.

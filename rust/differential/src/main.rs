@@ -2,7 +2,6 @@
 //! `differential fuzz MINUTES [SEED]` compares random inputs until the time is over; `fuzz` says how.
 //! `differential record FILE` writes a sample of the original's answers, in the form that `record` describes.
 
-#![deny(warnings)]
 // Without the original some shared functions have no caller.
 #![cfg_attr(not(oracle_present), allow(dead_code))]
 #![forbid(unsafe_code)]

@@ -1,6 +1,6 @@
 //! Batch calls through the wrapper, on batches that the wrapper builds.
 
-use cuwelfra::{ApplyError, Batch, Fate, Logged, Outcome, Report};
+use cuwelfra::{ApplyError, Batch, Fate, Logged, Outcome, Report, Request};
 use cuwelfra_sys::Told;
 
 use crate::batches::{batch, Answer, BatchRow, Line};
@@ -20,7 +20,8 @@ pub fn same_call(
     agree(&built.bytes(), &&batch(&offer.rows)[..], &inputs)?;
     agree(&built.len(), &offer.rows.len(), &inputs)?;
     let report = areas.wrapped(|store| {
-        let answer = store.apply_remote_ops(&offer.limits, offer.time, built.bytes());
+        let request = Request::at(offer.time).with_limits(offer.limits);
+        let answer = store.apply_remote_ops(&request, &built);
         answer.map_err(|refusal| refusal.told())
     });
     agree(&report, &expected(answer), inputs)
@@ -56,16 +57,16 @@ fn expected(answer: &Answer) -> Result<Report, Told> {
     if told.told != Told::default() {
         return Err(told.told);
     }
-    Ok(Report {
-        applied: told.applied as usize,
-        stale: told.stale as usize,
-        rejected: told.rejected as usize,
-        duplicates: told.duplicates as usize,
-        held: told.held as usize,
-        expired: told.expired as usize,
-        dropped: told.dropped as usize,
-        logged: answer.lines.iter().map(logged).collect(),
-    })
+    let mut report = Report::default();
+    report.applied = told.applied as usize;
+    report.stale = told.stale as usize;
+    report.rejected = told.rejected as usize;
+    report.duplicates = told.duplicates as usize;
+    report.held = told.held as usize;
+    report.expired = told.expired as usize;
+    report.dropped = told.dropped as usize;
+    report.logged = answer.lines.iter().map(logged).collect();
+    Ok(report)
 }
 
 fn logged(line: &Line) -> Logged {
@@ -74,6 +75,7 @@ fn logged(line: &Line) -> Logged {
         1 => Fate::Stale,
         _ => rejected(outcome, u64::from(line.detail)).map_or(Fate::Applied, Fate::Rejected),
     };
+    assert_eq!(fate.byte(), line.fate);
     Logged {
         actor: cuwelfra::ActorId(line.author),
         seq: line.seq,

@@ -23,9 +23,9 @@ pub fn run(words: Words) -> Result<Answer, Error> {
          compacted  {}\n\
          floor      {}\n",
         file.display(),
-        store.log_len()?,
+        store.logged_len()?,
         store.capacity(),
-        store.pending_len()?,
+        store.held_len()?,
         pairs(&store.clock()?.entries()?),
         pairs(&store.compacted()?.entries()?),
         store.floor()?.map_or("-".to_owned(), stamp),

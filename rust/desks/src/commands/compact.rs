@@ -38,7 +38,7 @@ fn to_cutoff(file: PathBuf, clocks: &[OsString]) -> Result<Answer, Error> {
 
 fn compact(mut change: Change, cutoff: &Timestamp) -> Result<Answer, Error> {
     let removed = change.store.compact(cutoff)?;
-    let left = change.store.log_len()?;
+    let left = change.store.logged_len()?;
     let file = change.file.display().to_string();
     change.save()?;
     let cutoff = show::stamp(*cutoff);

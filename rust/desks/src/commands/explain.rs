@@ -11,7 +11,7 @@ use crate::words::Words;
 pub fn run(words: Words) -> Result<Answer, Error> {
     let usage = words.usage();
     let explained: Vec<String> = match &words.rest()?[..] {
-        [] => (1..).map_while(Refusal::explain).map(shown).collect(),
+        [] => Refusal::all().iter().map(shown).collect(),
         [word] => {
             let number = word.to_str().and_then(|word| number("", word).ok());
             let found = number.and_then(Refusal::explain).ok_or(Error::Word {
@@ -32,6 +32,7 @@ fn shown(explained: &Explained) -> String {
         values,
         meaning,
         advice,
+        ..
     } = explained;
     let values = match values.is_empty() {
         true => String::new(),

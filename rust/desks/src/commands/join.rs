@@ -14,9 +14,9 @@ pub fn run(words: Words) -> Result<Answer, Error> {
     let shown = file.display().to_string();
     let desks = Desk::read_all(files)?;
     let mut change = Change::begin(file)?;
-    let before = change.store.log_len()?;
+    let before = change.store.logged_len()?;
     let told = calls::offer(&mut change.store, desks.iter(), calls::latest(&desks));
-    let (logged, held) = (change.store.log_len()?, change.store.pending_len()?);
+    let (logged, held) = (change.store.logged_len()?, change.store.held_len()?);
     let accepted = told.iter().any(|told| told.answer.is_ok());
     let written = if accepted || change.new {
         change.save()?;

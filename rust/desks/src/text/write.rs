@@ -75,6 +75,8 @@ pub fn answer(error: ApplyError) -> String {
         ApplyError::UnknownOpTag(tag) => format!("unknown/{tag}"),
         ApplyError::Denied => "denied".to_owned(),
         ApplyError::Invalid(text) => format!("invalid/{text}"),
+        // A later version's, for which there is no word yet.
+        error => error.to_string(),
     }
 }
 

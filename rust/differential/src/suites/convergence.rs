@@ -144,10 +144,7 @@ fn again(rng: &mut Rng, universe: &Universe, rows: &[Row], ages: &[u64]) -> Run 
     while !rest.is_empty() {
         let (batch, later) = rest.split_at(1 + rng.below(rest.len()));
         rest = later;
-        let limits = Limits {
-            max_pending_age_ms: rng.pick(ages),
-            ..Limits::default()
-        };
+        let limits = Limits::new().with_max_pending_age_ms(rng.pick(ages));
         desk.batch(&Offer {
             limits,
             time: universe.soon(rng),

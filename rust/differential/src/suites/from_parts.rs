@@ -46,7 +46,7 @@ fn new_stores() -> Outcome {
             _ => Err(4),
         };
         let store = store.map_err(|refusal| refusal.number()).map(|store| {
-            let answers = (store.check(), store.log_len(), store.logged(0));
+            let answers = (store.check(), store.logged_len(), store.logged_at(0));
             let (log, held, head) = store.into_areas();
             (Areas { log, held, head }, answers.0, answers.1, answers.2)
         });
@@ -297,7 +297,7 @@ impl Parts {
         let clock = cuwelfra::VectorClock::from_area(clock.expect("a clock's bytes"));
         let lent = std::mem::take(areas);
         let mut store = cuwelfra::Store::from_areas(lent.log, lent.held, lent.head);
-        let told = refusal(store.from_parts(&slots, &clock));
+        let told = refusal(store.rebuild(&slots, &clock));
         let (log, held, head) = store.into_areas();
         *areas = Areas { log, held, head };
         told

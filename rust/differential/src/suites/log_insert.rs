@@ -161,14 +161,14 @@ fn wrapped_questions(pair: &mut Pair, author: u64) -> Check {
     );
     let answers = pair.wrapped(|store| {
         (
-            store.log_len(),
-            store.pending_len(),
+            store.logged_len(),
+            store.held_len(),
             store.floor(),
             store.watermark(cuwelfra::ActorId(author)),
             store.clock().map(|clock| *clock.area()),
             store.compacted().map(|clock| *clock.area()),
-            store.logged(0).map(|row| row.map(|held| held.row.seq)),
-            store.held(0).map(|row| row.map(|held| held.row.seq)),
+            store.logged_at(0).map(|row| row.map(|row| row.seq)),
+            store.held_at(0).map(|row| row.map(|held| held.row.seq)),
         )
     });
     agree(&answers, &wanted, || inputs)

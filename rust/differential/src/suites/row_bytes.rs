@@ -126,11 +126,8 @@ fn read_back(rng: &mut Rng, row: &Row) -> Check {
     same_read(rng, &batch, at, Ok((&held, verdict, next)))?;
     let read = WrappedSlot::read(&batch, at);
     let read = read.map(|read| (read.slot.row(), read.verdict, read.next));
-    let wanted = HeldRow {
-        row: wrapped_row(row),
-        arrived_ms: 0,
-        outcome: wrapped_outcome(held.outcome, held.detail),
-    };
+    let outcome = wrapped_outcome(held.outcome, held.detail);
+    let wanted = HeldRow::new(wrapped_row(row), 0, outcome);
     let inputs = || format!("the wrapper's read at {at} of {batch:02x?}");
     let slot = WrappedSlot::held(&wanted).map(|slot| *slot.area());
     agree(&slot, &Ok(held.slot()), inputs)?;

@@ -40,11 +40,13 @@ fn one(v: u64) -> Outcome {
 
 fn read_back(v: u64, at: usize, expected: &[u8]) -> Outcome {
     let mut out = [0xff; 16];
-    sys::put_varint(&mut out, at, v);
+    let written = sys::put_varint(&mut out, at, v);
     let read = sys::get_varint(&out, at);
     let next = (at + expected.len()) as u64;
-    agree(&(read.value, read.next), &(v, next), || {
-        format!("put_varint of {v} at {at}, read back")
-    })?;
+    agree(
+        &(read.value, read.next, written.next),
+        &(v, next, next),
+        || format!("put_varint of {v} at {at}, read back"),
+    )?;
     Ok(1)
 }
