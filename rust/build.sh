@@ -37,7 +37,7 @@ fresh() {
 }
 
 cargo_build() { # PACKAGE
-    CARGO_TARGET_DIR=$root/target/rust RUSTFLAGS="-D warnings" \
+    CARGO_TARGET_DIR=$root/target/rust \
         cargo build --release --offline --locked --manifest-path rust/Cargo.toml --package "$1"
 }
 

@@ -54,6 +54,7 @@ impl Timestamp {
 
 impl Ord for Timestamp {
     fn cmp(&self, other: &Self) -> Ordering {
+        // 0, 1 or 2; there is nowhere to tell another number.
         sys::timestamp_cmp(self.parts(), other.parts()).cmp(&1)
     }
 }

@@ -136,6 +136,36 @@ pub use store::{HEAD_BYTES, HELD_BYTES, MAX_HELD, MAX_LOGGED, SCRATCH_BYTES};
 #[doc = include_str!("../../../docs/GUIDE.md")]
 struct Guide;
 
+/// What later versions may add a field to is made here only.
+///
+/// ```compile_fail,E0639
+/// let limits = cuwelfra::Limits { max_deps: 1, ..cuwelfra::Limits::new() };
+/// ```
+///
+/// ```compile_fail,E0639
+/// let request = cuwelfra::Request { time_ms: 1, ..cuwelfra::Request::at(0) };
+/// ```
+///
+/// ```compile_fail,E0639
+/// let report = cuwelfra::Report { applied: 1, ..cuwelfra::Report::default() };
+/// ```
+///
+/// ```compile_fail,E0638
+/// fn row(held: cuwelfra::HeldRow) -> cuwelfra::Row {
+///     let cuwelfra::HeldRow { row, arrived_ms: _, outcome: _ } = held;
+///     row
+/// }
+/// ```
+///
+/// ```compile_fail,E0638
+/// fn number(explained: &cuwelfra::Explained) -> u64 {
+///     let cuwelfra::Explained { number, word: _, values: _, meaning: _, advice: _ } = explained;
+///     *number
+/// }
+/// ```
+#[cfg(doctest)]
+struct LaterFields;
+
 #[cfg(test)]
 mod tests {
     use super::*;

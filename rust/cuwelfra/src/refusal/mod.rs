@@ -7,31 +7,12 @@ use std::fmt;
 
 use cuwelfra_sys::Told;
 
-pub use table::Refusal;
+pub use table::{Explained, Refusal};
 use table::{EXPLAINED, MISFIT, UNKNOWN};
-
-/// A refusal in words.
-#[derive(Clone, Copy, Debug, PartialEq, Eq)]
-#[non_exhaustive]
-pub struct Explained {
-    /// Document 01's number.
-    pub number: u64,
-    /// Document 01's word.
-    pub word: &'static str,
-    /// The names of the values that it carries.
-    pub values: &'static [&'static str],
-    /// What it means.
-    pub meaning: &'static str,
-    /// What the caller can do.
-    pub advice: &'static str,
-}
 
 impl Refusal {
     /// How many refusals document 01 has.
     pub const COUNT: usize = EXPLAINED.len();
-
-    /// The number of [`Refusal::MisfitAnswer`]. No refusal of document 01 has it, now or later.
-    pub const MISFIT: u64 = u64::MAX;
 
     /// `Ok` for number 0, else the refusal that an exported call told.
     pub fn check(told: Told) -> Result<(), Refusal> {

@@ -3,8 +3,23 @@
 
 use cuwelfra_sys::Told;
 
-use super::Explained;
 use crate::ActorId;
+
+/// A refusal in words.
+#[derive(Clone, Copy, Debug, PartialEq, Eq)]
+#[non_exhaustive]
+pub struct Explained {
+    /// Document 01's number.
+    pub number: u64,
+    /// Document 01's word.
+    pub word: &'static str,
+    /// The names of the values that it carries.
+    pub values: &'static [&'static str],
+    /// What it means.
+    pub meaning: &'static str,
+    /// What the caller can do.
+    pub advice: &'static str,
+}
 
 /// Makes the enum, what tells and reads its numbers, and the explanations.
 macro_rules! refusals {
@@ -62,6 +77,9 @@ macro_rules! refusals {
         }
 
         impl Refusal {
+            /// The number of [`Refusal::MisfitAnswer`]. No refusal of document 01 has it, now or later.
+            pub const MISFIT: u64 = u64::MAX;
+
             /// The refusal that an exported call told.
             pub(super) fn from_told(told: Told) -> Self {
                 match told.number {
