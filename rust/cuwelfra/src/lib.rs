@@ -110,6 +110,7 @@ mod merge;
 mod outcome;
 mod peer;
 mod refusal;
+mod request;
 mod row;
 mod store;
 mod words;
@@ -122,10 +123,11 @@ pub use codec::{varint_len, Envelope, Reader, Writer, MAX_BODY, MAX_BODY_SIGNATU
 pub use cuwelfra_sys::Told;
 pub use delta::Delta;
 pub use file::{FileError, Update};
-pub use merge::{Fate, Limits, Logged, Report, Request, LINE_BYTES};
+pub use merge::{Fate, Logged, Report, LINE_BYTES};
 pub use outcome::{ApplyError, Outcome};
 pub use peer::{Peer, PeerState, MAX_PINGS, PEER_BYTES};
 pub use refusal::{Explained, Refusal};
+pub use request::{Limits, Request};
 pub use row::{HeldRow, Row, Slot, SlotRead};
 pub use row::{MAX_DEPS, MAX_OP_BYTES, MAX_PAYLOAD, MAX_SIGNATURE, SLOT_BYTES};
 pub use store::{Found, Place, Store};
@@ -165,6 +167,45 @@ struct Guide;
 /// ```
 #[cfg(doctest)]
 struct LaterFields;
+
+/// What is made and then forgotten is a mistake.
+///
+/// ```compile_fail
+/// #![deny(unused_must_use)]
+/// use cuwelfra::{ActorId, Row, Timestamp};
+/// Row::new(Timestamp::new(1, 0, ActorId(1)), 1, "Kette").needs(ActorId(2), 1);
+/// ```
+///
+/// ```compile_fail
+/// #![deny(unused_must_use)]
+/// use cuwelfra::{ActorId, Row, Timestamp};
+/// Row::new(Timestamp::new(1, 0, ActorId(1)), 1, "Kette").signed([7]);
+/// ```
+///
+/// ```compile_fail
+/// #![deny(unused_must_use)]
+/// cuwelfra::Limits::new().with_max_deps(1);
+/// ```
+///
+/// ```compile_fail
+/// #![deny(unused_must_use)]
+/// cuwelfra::Request::at(0).with_limits(cuwelfra::Limits::new());
+/// ```
+///
+/// ```compile_fail
+/// #![deny(unused_must_use)]
+/// fn begin() -> Result<(), cuwelfra::FileError> {
+///     cuwelfra::Update::begin("desk.store")?;
+///     Ok(())
+/// }
+/// ```
+///
+/// ```compile_fail
+/// #![deny(unused_must_use)]
+/// cuwelfra::Refusal::LogFull.told();
+/// ```
+#[cfg(doctest)]
+struct NotForgotten;
 
 #[cfg(test)]
 mod tests {

@@ -5,75 +5,91 @@
 
 use cuwelfra::{ApplyError, Fate, FileError, PeerState, Refusal};
 
-/// Whether it is one of those that there are.
-trait Known {
-    fn is_known(&self) -> bool;
+/// Since when it is there.
+#[derive(Debug, PartialEq)]
+enum Since {
+    Now,
+    Later,
 }
 
-impl Known for ApplyError {
-    fn is_known(&self) -> bool {
+trait Dated {
+    fn since(&self) -> Since;
+}
+
+impl Dated for ApplyError {
+    fn since(&self) -> Since {
         match self {
-            Self::MalformedOp | Self::UnknownOpTag(_) | Self::Denied | Self::Invalid(_) => true,
-            _ => false,
+            Self::MalformedOp | Self::UnknownOpTag(_) | Self::Denied | Self::Invalid(_) => {
+                Since::Now
+            }
+            _ => Since::Later,
         }
     }
 }
 
-impl Known for Fate {
-    fn is_known(&self) -> bool {
+impl Dated for Fate {
+    fn since(&self) -> Since {
         match self {
-            Self::Applied | Self::Stale | Self::Rejected(_) => true,
-            _ => false,
+            Self::Applied | Self::Stale | Self::Rejected(_) => Since::Now,
+            _ => Since::Later,
         }
     }
 }
 
-impl Known for PeerState {
-    fn is_known(&self) -> bool {
+impl Dated for PeerState {
+    fn since(&self) -> Since {
         match self {
-            Self::Connecting | Self::Syncing | Self::UpToDate | Self::Disconnected => true,
-            _ => false,
+            Self::Connecting | Self::Syncing | Self::UpToDate | Self::Disconnected => Since::Now,
+            _ => Since::Later,
         }
     }
 }
 
-impl Known for FileError {
-    fn is_known(&self) -> bool {
+impl Dated for FileError {
+    fn since(&self) -> Since {
         match self {
-            Self::Io { .. } | Self::TooShort { .. } | Self::TooLong { .. } => true,
-            Self::NotAStore | Self::Version(_) | Self::Header { .. } => true,
-            Self::Checksum { .. } | Self::Counts | Self::Refused(_) | Self::Busy(_) => true,
-            _ => false,
+            Self::Io { .. } | Self::TooShort { .. } | Self::TooLong { .. } => Since::Now,
+            Self::NotAStore | Self::Version(_) | Self::Header { .. } => Since::Now,
+            Self::Checksum { .. } | Self::Counts | Self::Refused(_) | Self::Busy(_) => Since::Now,
+            _ => Since::Later,
         }
     }
 }
 
-impl Known for Refusal {
-    fn is_known(&self) -> bool {
+impl Dated for Refusal {
+    fn since(&self) -> Since {
         match self {
-            Self::UnsoundStore | Self::ShortArea | Self::Unreadable => true,
-            Self::OverCapacity | Self::ZeroSequence { .. } | Self::ForeignStamp { .. } => true,
-            Self::SpentCounter { .. } | Self::PayloadTooLarge { .. } => true,
-            Self::TooManyCauses { .. } | Self::OwnFuture { .. } | Self::AheadOfTime { .. } => true,
-            Self::BadSignature { .. } | Self::Conflict { .. } | Self::HeldOverflow { .. } => true,
-            Self::HeldBytes { .. } | Self::AuthorOverflow { .. } | Self::LogFull => true,
-            Self::AuthorsFull | Self::CounterOverflow | Self::RemoteAhead { .. } => true,
-            Self::UnaskedPong | Self::Truncated | Self::VarintOverflow => true,
-            Self::TooLarge | Self::TrailingBytes => true,
-            Self::UnknownAnswer(_) | Self::MisfitAnswer => true,
-            _ => false,
+            Self::UnsoundStore | Self::ShortArea | Self::Unreadable => Since::Now,
+            Self::OverCapacity | Self::ZeroSequence { .. } | Self::ForeignStamp { .. } => {
+                Since::Now
+            }
+            Self::SpentCounter { .. } | Self::PayloadTooLarge { .. } => Since::Now,
+            Self::TooManyCauses { .. } | Self::OwnFuture { .. } | Self::AheadOfTime { .. } => {
+                Since::Now
+            }
+            Self::BadSignature { .. } | Self::Conflict { .. } | Self::HeldOverflow { .. } => {
+                Since::Now
+            }
+            Self::HeldBytes { .. } | Self::AuthorOverflow { .. } | Self::LogFull => Since::Now,
+            Self::AuthorsFull | Self::CounterOverflow | Self::RemoteAhead { .. } => Since::Now,
+            Self::UnaskedPong | Self::Truncated | Self::VarintOverflow => Since::Now,
+            Self::TooLarge | Self::TrailingBytes => Since::Now,
+            Self::UnknownAnswer(_) | Self::MisfitAnswer => Since::Now,
+            _ => Since::Later,
         }
     }
 }
 
 #[test]
-fn what_there_is_now_is_known() {
-    let known: [&dyn Known; 5] = [
+fn what_there_is_now_is_matched() {
+    let variants: [&dyn Dated; 5] = [
         &ApplyError::Denied,
         &Fate::Stale,
         &PeerState::UpToDate,
         &FileError::NotAStore,
         &Refusal::LogFull,
     ];
-    assert!(known.iter().all(|one| one.is_known()));
+    for variant in variants {
+        assert_eq!(variant.since(), Since::Now);
+    }
 }
