@@ -30,6 +30,7 @@ pub fn run(rng: &mut Rng) -> Outcome {
             let call = peers.call(rng, &world);
             peers.step(rng, &call)?;
             peers.refused(rng, &call)?;
+            peers.marked(rng)?;
             steps += 1;
         }
     }
@@ -296,6 +297,26 @@ impl Peers {
         let told = lent(&mut area, call, &clock);
         agree(&told, &refused(number), inputs)?;
         agree(&area, &before, inputs)
+    }
+}
+
+impl Peers {
+    /// The wrapper's marks, beside the fields that the original's engine sets.
+    fn marked(&self, rng: &mut Rng) -> Check {
+        let (seen, hello) = (rng.edge(), rng.edge());
+        let mut peer = self.peer.clone();
+        peer.state = PeerState::UpToDate;
+        peer.last_seen_ms = seen;
+        peer.last_hello_ms = hello;
+        let mut wrapped = cuwelfra::Peer::from_area(self.area);
+        let told = [
+            wrapped.mark_up_to_date(),
+            wrapped.mark_seen(seen),
+            wrapped.mark_hello(hello),
+        ];
+        let inputs = || format!("marks {seen} and {hello} of {:?}", self.peer);
+        agree(&told, &[Ok(()); 3], inputs)?;
+        agree(wrapped.area(), &encode(&peer, &self.area), inputs)
     }
 }
 
