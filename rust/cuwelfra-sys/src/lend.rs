@@ -7,7 +7,7 @@ macro_rules! lend {
         lend!(@ $call () $($lent)*,)
     };
     // All is lent.
-    (@ $call:ident ($($over:expr,)*)) => {
+    (@ $call:ident ($($over:expr,)*) $(,)?) => {
         // SAFETY: the contract of `ffi`. Each pointer and the length behind it are those of one slice, which is borrowed
         // up to here, and mutably where the pointer is `*mut`: no slice would be accepted twice beside a mutable one.
         unsafe { $crate::ffi::$call($($over),*) }
