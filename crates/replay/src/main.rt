@@ -320,7 +320,13 @@ fn local_row(log: &mut [u8], held: &[u8], head: &mut [u8], slot: &[u8]) -> Verdi
 }
 
 // Looks a row up: its payload comes back as a part of the area that it stands in.
-fn row_lookup(record: &[u8], log: &[u8], held: &[u8], head: &[u8], payload: &[u8]) -> Verdict {
+fn row_lookup<'a>(
+    record: &[u8],
+    log: &'a [u8],
+    held: &'a [u8],
+    head: &[u8],
+    payload: &[u8],
+) -> Verdict {
     let actor = ActorId(word(record, 3));
     let part = lookup(log, held, head, actor, word(record, 4));
     if !check::same(part, payload) {
