@@ -1,14 +1,10 @@
 //! The number of the library's binary interface, and the one that this crate was made for.
 
+use crate::ffi::cuwelfra_abi_1;
+
 /// The number that these declarations were made for. The library raises its own at each change of a signature, a
 /// struct, an area's layout or a size.
 pub const ABI: u64 = 1;
-
-#[allow(missing_docs)]
-extern "C" {
-    pub fn cuwelfra_abi() -> u64;
-    pub fn cuwelfra_abi_1() -> u64;
-}
 
 /// The name has the number in it: a program does not link with a library of another one.
 #[used]
@@ -16,8 +12,7 @@ static LINKED: unsafe extern "C" fn() -> u64 = cuwelfra_abi_1;
 
 /// The number of the linked library.
 pub fn abi() -> u64 {
-    // SAFETY: the call takes nothing and only answers a number.
-    unsafe { cuwelfra_abi() }
+    lend!(cuwelfra_abi())
 }
 
 /// Whether the linked library is one that this crate was made for.

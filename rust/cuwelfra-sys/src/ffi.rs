@@ -18,6 +18,9 @@ use crate::*;
 
 #[allow(missing_docs)]
 extern "C" {
+    // The interface.
+    pub fn cuwelfra_abi() -> u64;
+    pub fn cuwelfra_abi_1() -> u64;
     // Bytes.
     pub fn cuwelfra_varint_len(v: u64) -> usize;
     pub fn cuwelfra_put_varint(out: *mut u8, out_len: usize, at: usize, v: u64) -> Written;
