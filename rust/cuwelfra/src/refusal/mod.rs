@@ -210,7 +210,7 @@ mod tests {
                     remote_wall: 5,
                     local_wall: 4,
                 },
-                "refusal 20, remote ahead: remote wall 5, local wall 4",
+                "refusal 20, remote ahead: remote wall 5, physical time 4",
             ),
         ];
         for (refusal, text) in texts {

@@ -253,7 +253,7 @@ refusals! {
         advice: "With a hybrid clock, try again once the physical time is past its wall time. An author's number \
                  that is at its end stays there.",
     }
-    20 => RemoteAhead { remote_wall: u64 = "remote wall", local_wall: u64 = "local wall" }, "remote ahead" {
+    20 => RemoteAhead { remote_wall: u64 = "remote wall", local_wall: u64 = "physical time" }, "remote ahead" {
         meaning: "A remote stamp's wall time is further ahead of the physical time than the hybrid clock's drift \
                   allows.",
         advice: "Compare the two machines' times. Take the stamp in later, or widen the drift.",
