@@ -2,7 +2,7 @@
 -- merge, on any store and batch. Assumes nothing.
 use Prim.Native.Nat.{ℕ, zero, suc, _+_, _-_, _≤_}
 use mathlib.Core.Path.{_≡_, refl, sym, _∙_, ap}
-use mathlib.Core.Bool.{true, false}
+use mathlib.Core.Bool.{Bool, true, false}
 use mathlib.Core.List.{List, [], _∷_, _++_}
 use native.Mathlib.Omega.{arith}
 use lib.ListN.{length, length-append}
@@ -22,14 +22,17 @@ use Rattle.merging.specs.Steps.{unless-done, then-done, not-refused, ins
 
 -- ---- 1. expiring removes rows
 
+expire-length : (b : Bool) (h : HeldRow) (hs : List HeldRow) → length (expireBy b h hs) ≤ suc (length hs)
+unfolding expireBy
+expire-length true h hs = omega arith
+expire-length false h hs = omega arith
+
 unexpired-length : (cutoff : ℕ) (hs : List HeldRow) → length (unexpired cutoff hs) ≤ length hs
-unfolding unexpired expireBy
+unfolding unexpired
 unexpired-length cutoff [] = omega arith
 unexpired-length cutoff (h ∷ hs) =
-    elim (leb cutoff (h .arrival)) as (λ b. length (expireBy b h (unexpired cutoff hs)) ≤ suc (length hs)) [
-      | true ↦ omega (arith, unexpired-length cutoff hs)
-      | false ↦ omega (arith, unexpired-length cutoff hs)
-    ]
+    let one : length (unexpired cutoff (h ∷ hs)) ≤ suc (length (unexpired cutoff hs)) = expire-length _ h (unexpired cutoff hs) in
+    omega (arith, unexpired-length cutoff hs)
 
 -- ---- 2. each row of the batch becomes a working row or a duplicate
 
@@ -54,7 +57,7 @@ known-counted absent time b a r e =
 known-counted (present h) time b a r e =
     let (t, f) = unless-done (sameContent (h .row) (b .row)) _ _ e in
     let p : r .working ≡ a .working = cc in
-    let q : r .duplicates ≡ a .duplicates + 1 = cc in
+    let q : r .duplicates ≡ duplicate a .duplicates = cc in
     omega (arith, ap length p)
 
 admit-counted : (clock : List (ℕ × ℕ)) (time : ℕ) (a : Admitted) (b : BatchRow) (r : Admitted) → admit clock time a b ≡ done r → counted r ≡ suc (counted a)
@@ -63,7 +66,7 @@ admit-counted clock time a b r =
     elim (leb (b .row .seq) (get clock (b .row .author))) as (λ t. pick t (done (duplicate a)) (whenKnown (look (b .row) (a .working)) time b a) ≡ done r → counted r ≡ suc (counted a)) [
       | true ↦ λ e.
           let p : r .working ≡ a .working = cc in
-          let q : r .duplicates ≡ a .duplicates + 1 = cc in
+          let q : r .duplicates ≡ duplicate a .duplicates = cc in
           omega (arith, ap length p)
       | false ↦ λ e. known-counted (look (b .row) (a .working)) time b a r e
     ]
@@ -119,6 +122,12 @@ drain-counts zero clock waiting logged dropped = refl
 drain-counts (suc n) clock waiting logged dropped =
     next-counts (firstReady clock waiting) _ clock waiting logged dropped (λ c w l d. drain-counts n c w l d) (less-first clock waiting)
 
+settle-counts : (s : Store) (a : Admitted) → settled (settle s a) ≡ length (a .working)
+unfolding settle
+settle-counts s a =
+    let all : settled (settle s a) ≡ length (a .working) + 0 + 0 = drain-counts _ (s .clock) (a .working) [] 0 in
+    omega arith
+
 -- ---- 4. each logged row has one fate
 
 one-fate : (n a b c : ℕ) → pick (eqb n 0) (suc a) a + pick (eqb n 1) (suc b) b + pick (ltb 1 n) (suc c) c ≡ suc (a + b + c)
@@ -162,7 +171,7 @@ balance cap l time s rows m e =
             arith,
             unexpired-length (time - l .maxPendingAge) (s .held),
             admit-all-counted (s .clock) time (record { working = kept; duplicates = 0 }) rows (w .admitted) (w .admits),
-            drain-counts (length (w .admitted .working)) (s .clock) (w .admitted .working) [] 0,
+            settle-counts s (w .admitted),
             fates (fate (s .floor)) (d .logged),
           );
       held-after = held ∙ sym (ap (λ (t : Store). length (t .held)) (w .store) ∙ ap length (insert-held _ (rowsOf (d .logged))));

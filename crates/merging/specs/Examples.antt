@@ -1,9 +1,12 @@
--- Closed examples of merging, computed from the definitions. Assumes nothing.
-use Prim.Native.Nat.{ℕ}
+-- Closed examples of merging, computed from the definitions: what each rule says on both sides of its boundary. Assumes nothing.
+use Prim.Native.Nat.{ℕ, zero, suc}
 use mathlib.Core.Path.{_≡_, refl}
-use mathlib.Core.List.{List, [], _∷_}
-use Rattle.error.specs.Answer.{Answer, done, refused, andThen}
-use Rattle.error.specs.Numbers.{numberOf}
+use mathlib.Core.Bool.{Bool, true, false}
+use mathlib.Core.List.{List, [], _∷_, _++_}
+use lib.ListN.{replicate}
+use Rattle.words.specs.Be.{be64}
+use Rattle.error.specs.declared.Told.{Told}
+use Rattle.error.specs.Answer.{Answer, done, refused, andThen, toldBy}
 use Rattle.clock.specs.declared.stamp.Timestamp.{Timestamp}
 use Rattle.clock.specs.Order.{less, stampKey, stampLess}
 use Rattle.clock.specs.Entries.{get, observe, put, putBy}
@@ -11,44 +14,65 @@ use Rattle.clock.specs.Hybrid.{saturating}
 use Rattle.row.specs.Rows.{Row, HeldRow, workKey, workLess}
 use Rattle.row.specs.Slots.{same}
 use Rattle.row.specs.Reading.{BatchRow}
-use Rattle.log.specs.Store.{Floor, none, floor, Store, sameId, sameEntries}
+use Rattle.log.specs.Store.{Mark, Floor, none, floor, Store, sameId, sameEntries}
 use Rattle.log.specs.Areas.{rowsOf}
 use Rattle.log.specs.Calls.{insertRow, insert, insertAll, fits, raise, raiseBy, later}
-use Rattle.merging.specs.Batch.{Limits, ownFuture, validate, validateAll}
+use Rattle.merging.specs.Batch.{Limits, limitsOk, ownFuture, validate, validateAll}
 use Rattle.merging.specs.Merging.{expireBy, unexpired, sameStamp, sameContent, lookBy, look, enterBy, enter, whenKnown, admit, admitAll, depsMet, ready, past, pickBy, firstReady, tryLog, next, drain, stale, fate, fateDetail, line, lines, countIf, payloadBytes, heldBy, lower, lowestOver, authorQuota, quotas, Report, Merged, commit, report, settle, finish, merge}
+use Rattle.merging.specs.Calls.{roomFor}
+use Rattle.merging.specs.Offers.{logLess}
 
--- ---- rows and stores
+-- ---- rows, stores, settings
 
-abbrev stampOf : ℕ → ℕ → Timestamp
+abbrev pub stampOf : ℕ → ℕ → Timestamp
 stampOf wall author = record { «wall_time» = wall; «logical_counter» = 0; «actor_id» = record { 0 = author } }
 
 -- a row of wall time, author, sequence, dependencies and payload
-abbrev rowOf : ℕ → ℕ → ℕ → List (ℕ × ℕ) → List ℕ → Row
+abbrev pub rowOf : ℕ → ℕ → ℕ → List (ℕ × ℕ) → List ℕ → Row
 rowOf wall author seq deps payload =
     record { stamp = stampOf wall author; author = author; seq = seq; deps = deps; payload = payload; signature = [] }
 
--- a row of a batch with an outcome, rightly signed
-abbrev given : ℕ → Row → BatchRow
-given outcome r = record { row = r; closing = record { verdict = 1; outcome = outcome; detail = 0 } }
+-- the row with this stamp, and with this signature
+abbrev stamped : Timestamp → Row → Row
+stamped t r = record { stamp = t; author = r .author; seq = r .seq; deps = r .deps; payload = r .payload; signature = r .signature }
 
-abbrev held : ℕ → Row → HeldRow
+abbrev signed : List ℕ → Row → Row
+signed s r = record { stamp = r .stamp; author = r .author; seq = r .seq; deps = r .deps; payload = r .payload; signature = s }
+
+-- a row of a batch with verdict, outcome and detail
+abbrev closed : ℕ → ℕ → ℕ → Row → BatchRow
+closed verdict outcome detail r = record { row = r; closing = record { verdict = verdict; outcome = outcome; detail = detail } }
+
+-- a rightly signed row of a batch with an outcome
+abbrev pub given : ℕ → Row → BatchRow
+given outcome r = closed 1 outcome 0 r
+
+abbrev pub held : ℕ → Row → HeldRow
 held arrival r = record { row = r; arrival = arrival; outcome = 0; detail = 0 }
 
-abbrev emptyStore : Floor → Store
+abbrev pub emptyStore : Floor → Store
 emptyStore f = record { log = []; held = []; floor = f; clock = []; compacted = []; marks = [] }
 
--- as MergeLimits by default, but for the count of held rows and the pending age
-abbrev limits : ℕ → ℕ → Limits
-limits pending age =
+-- the settings in the order of `Limits`: held rows, held rows of an author, held payload bytes, pending age, drift, dependencies, payload bytes
+abbrev pub settings : ℕ → ℕ → ℕ → ℕ → ℕ → ℕ → ℕ → Limits
+settings pending perActor bytes age drift deps payload =
     record {
       maxPending = pending;
-      maxPendingPerActor = 64;
-      maxPendingBytes = 65536;
+      maxPendingPerActor = perActor;
+      maxPendingBytes = bytes;
       maxPendingAge = age;
-      maxDrift = 60000;
-      maxDeps = 16;
-      maxPayload = 256;
+      maxDrift = drift;
+      maxDeps = deps;
+      maxPayload = payload;
     }
+
+-- wide ones, but for the count of held rows and the pending age
+abbrev pub limits : ℕ → ℕ → Limits
+limits pending age = settings pending 64 65536 age 60000 16 256
+
+-- narrow ones: of an author one held row, in all two held payload bytes, one dependency, two payload bytes
+abbrev narrow : Limits
+narrow = settings 64 1 2 1000 60000 1 2
 
 -- ---- what is looked at: author and sequence of the logged rows and of the held rows, and the counts
 
@@ -68,10 +92,24 @@ abbrev counts : Answer Merged → Answer Report
 counts (done m) = done (m .report)
 counts (refused r) = refused r
 
--- the refusal's number, 0 where there is none
-abbrev refusal : {A : Type 0} → Answer A → ℕ
-refusal (done a) = 0
-refusal (refused r) = numberOf r
+-- number and values of a refusal; all zero where nothing is refused
+abbrev pub told : ℕ → ℕ → ℕ → Told
+told number first second = record { number = number; first = first; second = second }
+
+abbrev pub passed : Told
+passed = told 0 0 0
+
+-- one line of output: author, sequence, fate, detail
+abbrev lineOf : ℕ → ℕ → ℕ → ℕ → List ℕ
+lineOf author seq fate detail = be64 author ++ (be64 seq ++ (fate ∷ detail ∷ []))
+
+abbrev output : Answer Merged → List ℕ
+output (done m) = m .lines
+output (refused r) = []
+
+-- one batch on an empty store, and one whose rows go in two batches
+abbrev once : Limits → List BatchRow → Answer Merged
+once l rows = merge 10 l 1000 (emptyStore none) rows
 
 abbrev twice : Store → Limits → List BatchRow → List BatchRow → Answer Merged
 twice s l first second = andThen (merge 10 l 1000 s first) (λ m. merge 10 l 1000 (m .store) second)
@@ -83,8 +121,8 @@ abbrev r21 : Row
 r21 = rowOf 3 2 1 ((1, 1) ∷ []) []
 
 -- stands for the definitions that an example opens
-computing : ℕ
-unfolding merge validateAll validate ownFuture saturating expireBy unexpired admitAll admit get lookBy look sameId sameStamp sameContent sameEntries same whenKnown enterBy enter workLess workKey stampKey less stampLess settle drain next firstReady pickBy past ready depsMet tryLog observe put putBy finish quotas payloadBytes lowestOver heldBy countIf lower authorQuota commit insertAll insert insertRow raise raiseBy later fits report fate stale fateDetail line lines rowsOf
+unfoldable pub computing : ℕ
+unfolding limitsOk roomFor be64 logLess merge validateAll validate ownFuture saturating expireBy unexpired admitAll admit get lookBy look sameId sameStamp sameContent sameEntries same whenKnown enterBy enter workLess workKey stampKey less stampLess settle drain next firstReady pickBy past ready depsMet tryLog observe put putBy finish quotas payloadBytes lowestOver heldBy countIf lower authorQuota commit insertAll insert insertRow raise raiseBy later fits report fate stale fateDetail line lines rowsOf
 computing = 0
 
 -- "author 2's row 1 needing 1:1 is held, then 1:1 logs both", in stamp order
@@ -101,7 +139,7 @@ limit-one : see (merge 10 (limits 1 1000) 1000 (emptyStore none) (given 0 r21 �
 unfolding computing
 limit-one = refl
 
-limit-two : refusal (merge 10 (limits 1 1000) 1000 (emptyStore none) (given 0 r21 ∷ given 0 (rowOf 3 3 1 ((1, 1) ∷ []) []) ∷ [])) ≡ 14
+limit-two : toldBy (once (limits 1 1000) (given 0 r21 ∷ given 0 (rowOf 3 3 1 ((1, 1) ∷ []) []) ∷ [])) ≡ told 14 1 0
 unfolding computing
 limit-two = refl
 
@@ -126,21 +164,30 @@ stale-is-logged : see (merge 10 (limits 64 1000) 1000 (emptyStore (floor (stampO
 unfolding computing
 stale-is-logged = refl
 
--- "Outcomes are not compared; the first is kept": a held row that comes again with another outcome, and a logged one
-other-outcome : counts (twice (emptyStore none) (limits 64 1000) (given 0 r21 ∷ []) (given 3 r21 ∷ []))
+-- "Outcomes are not compared; the first is kept": a row twice in a batch has the fate of its first outcome
+first-is-kept : output (once (limits 64 1000) (given 0 r11 ∷ given 3 r11 ∷ [])) ≡ lineOf 1 1 0 0
+unfolding computing
+first-is-kept = refl
+
+first-is-rejected : output (once (limits 64 1000) (given 3 r11 ∷ given 0 r11 ∷ [])) ≡ lineOf 1 1 4 0
+unfolding computing
+first-is-rejected = refl
+
+-- a held row that comes again has the fate of the outcome that it came with first
+held-is-kept : output (twice (emptyStore none) (limits 64 1000) (given 3 r21 ∷ []) (given 0 r21 ∷ given 0 r11 ∷ [])) ≡ lineOf 1 1 0 0 ++ lineOf 2 1 4 0
+unfolding computing
+held-is-kept = refl
+
+-- a row that comes again is a duplicate, held or logged
+held-again : counts (twice (emptyStore none) (limits 64 1000) (given 0 r21 ∷ []) (given 3 r21 ∷ []))
     ≡ done (record { applied = 0; stale = 0; rejected = 0; duplicates = 1; held = 1; expired = 0; dropped = 0 })
 unfolding computing
-other-outcome = refl
+held-again = refl
 
 logged-again : counts (twice (emptyStore none) (limits 64 1000) (given 0 r11 ∷ []) (given 3 r11 ∷ []))
     ≡ done (record { applied = 0; stale = 0; rejected = 0; duplicates = 1; held = 0; expired = 0; dropped = 0 })
 unfolding computing
 logged-again = refl
-
--- "else 13": the same author and sequence with another payload
-conflicting : refusal (twice (emptyStore none) (limits 64 1000) (given 0 r21 ∷ []) (given 0 (rowOf 3 2 1 ((1, 1) ∷ []) (9 ∷ [])) ∷ [])) ≡ 13
-unfolding computing
-conflicting = refl
 
 -- "If it is not its author's next it is dropped": a held row at the clock's number
 dropped-row : counts (merge 10 (limits 64 1000) 1000 (record { log = r11 ∷ []; held = held 900 r11 ∷ []; floor = none; clock = (1, 1) ∷ []; compacted = []; marks = [] }) [])
@@ -148,23 +195,127 @@ dropped-row : counts (merge 10 (limits 64 1000) 1000 (record { log = r11 ∷ [];
 unfolding computing
 dropped-row = refl
 
--- "arrival 100, age 50: kept at 150, expired at 151"
-abbrev waiting : Store
-waiting = record { log = []; held = held 100 r21 ∷ []; floor = none; clock = []; compacted = []; marks = [] }
+-- ---- output
 
-kept-at-150 : counts (merge 10 (limits 64 50) 150 waiting []) ≡ done (record { applied = 0; stale = 0; rejected = 0; duplicates = 0; held = 1; expired = 0; dropped = 0 })
+-- "18 bytes: author 8 and sequence 8, big-endian, fate, detail": author 258, an unknown tag 9
+one-line : output (once (limits 64 1000) (closed 1 2 9 (rowOf 5 258 1 [] []) ∷ []))
+    ≡ 0 ∷ 0 ∷ 0 ∷ 0 ∷ 0 ∷ 0 ∷ 1 ∷ 2 ∷ 0 ∷ 0 ∷ 0 ∷ 0 ∷ 0 ∷ 0 ∷ 0 ∷ 1 ∷ 3 ∷ 9 ∷ []
 unfolding computing
-kept-at-150 = refl
+one-line = refl
 
-expired-at-151 : counts (merge 10 (limits 64 50) 151 waiting []) ≡ done (record { applied = 0; stale = 0; rejected = 0; duplicates = 0; held = 0; expired = 1; dropped = 0 })
+-- "for each logged row, in logging order": 2:1 waits for 1:1, though its stamp is the lesser
+logging-order : output (once (limits 64 1000) (given 0 r21 ∷ given 0 r11 ∷ [])) ≡ lineOf 1 1 0 0 ++ lineOf 2 1 0 0
 unfolding computing
-expired-at-151 = refl
+logging-order = refl
 
--- "time 1,000, drift 60,000: 61,000 passes, 61,001 is 11"
-drift-passes : refusal (merge 10 (limits 64 50) 1000 (emptyStore none) (given 0 (rowOf 61000 1 1 [] []) ∷ [])) ≡ 0
+-- "fate (0 applied, 1 stale, 2 to 5 for outcomes 1 to 4), detail (0 for fates 0 and 1)"
+fates : output (once (limits 64 1000)
+    (closed 1 0 0 (rowOf 5 1 1 [] []) ∷ closed 1 1 0 (rowOf 5 1 2 [] []) ∷ closed 1 2 9 (rowOf 5 1 3 [] []) ∷ closed 1 3 0 (rowOf 5 1 4 [] [])
+    ∷ closed 1 4 7 (rowOf 5 1 5 [] []) ∷ []))
+    ≡ lineOf 1 1 0 0 ++ (lineOf 1 2 2 0 ++ (lineOf 1 3 3 9 ++ (lineOf 1 4 4 0 ++ lineOf 1 5 5 7)))
 unfolding computing
-drift-passes = refl
+fates = refl
 
-drift-is-11 : refusal (merge 10 (limits 64 50) 1000 (emptyStore none) (given 0 (rowOf 61001 1 1 [] []) ∷ [])) ≡ 11
+stale-line : output (merge 10 (limits 64 1000) 1000 (emptyStore (floor (stampOf 5 1))) (closed 1 4 7 r11 ∷ closed 1 4 7 (rowOf 6 1 2 [] []) ∷ []))
+    ≡ lineOf 1 1 1 0 ++ lineOf 1 2 5 7
 unfolding computing
-drift-is-11 = refl
+stale-line = refl
+
+-- "output 18 × (held + batch rows) bytes; scratch 704 × (held + batch rows)": of two rows, one byte less is too short
+room : roomFor 2 (replicate 1408 0) (replicate 36 0) ∷ roomFor 2 (replicate 1408 0) (replicate 35 0) ∷ roomFor 2 (replicate 1407 0) (replicate 36 0) ∷ []
+    ≡ true ∷ false ∷ false ∷ []
+unfolding computing
+room = refl
+
+-- "equal stamps of one author stand newest first": the order in which demand 3 compares logs
+log-order : logLess (rowOf 7 1 2 [] []) (rowOf 7 1 1 [] []) ∷ logLess (rowOf 7 1 1 [] []) (rowOf 7 1 2 [] []) ∷ [] ≡ true ∷ false ∷ []
+unfolding computing
+log-order = refl
+
+-- ---- refusals: what just passes and what is just refused, with number and values
+
+-- "max_pending 0 to 64; max_deps 16; max_payload 256"
+settings-most : limitsOk (settings 64 0 0 0 0 16 256) ∷ limitsOk (settings 65 0 0 0 0 16 256) ∷ limitsOk (settings 64 0 0 0 0 17 256) ∷ limitsOk (settings 64 0 0 0 0 16 257) ∷ []
+    ≡ true ∷ false ∷ false ∷ false ∷ []
+unfolding computing
+settings-most = refl
+
+-- two batches on an empty store under the narrow settings
+abbrev edge : List BatchRow → List BatchRow → List Told
+edge good bad = toldBy (once narrow good) ∷ toldBy (once narrow bad) ∷ []
+
+zero-sequence : edge (given 0 (rowOf 5 3 1 [] []) ∷ []) (given 0 (rowOf 5 3 0 [] []) ∷ []) ≡ passed ∷ told 5 3 0 ∷ []
+unfolding computing
+zero-sequence = refl
+
+foreign-stamp : edge (given 0 (stamped (stampOf 5 3) (rowOf 5 3 1 [] [])) ∷ []) (given 0 (stamped (stampOf 5 4) (rowOf 5 3 1 [] [])) ∷ [])
+    ≡ passed ∷ told 6 3 1 ∷ []
+unfolding computing
+foreign-stamp = refl
+
+abbrev counting : ℕ → BatchRow
+counting n = given 0 (stamped (record { «wall_time» = 5; «logical_counter» = n; «actor_id» = record { 0 = 3 } }) (rowOf 5 3 1 [] []))
+
+spent-counter : edge (counting 4294967294 ∷ []) (counting 4294967295 ∷ []) ≡ passed ∷ told 7 3 1 ∷ []
+unfolding computing
+spent-counter = refl
+
+payload-too-large : edge (given 0 (rowOf 5 3 1 [] (1 ∷ 2 ∷ [])) ∷ []) (given 0 (rowOf 5 3 1 [] (1 ∷ 2 ∷ 3 ∷ [])) ∷ []) ≡ passed ∷ told 8 3 1 ∷ []
+unfolding computing
+payload-too-large = refl
+
+too-many-causes : edge (given 0 (rowOf 5 3 1 ((1, 1) ∷ []) []) ∷ []) (given 0 (rowOf 5 3 1 ((1, 1) ∷ (2, 1) ∷ []) []) ∷ []) ≡ passed ∷ told 9 3 1 ∷ []
+unfolding computing
+too-many-causes = refl
+
+own-future : edge (given 0 (rowOf 5 3 2 ((3, 1) ∷ []) []) ∷ []) (given 0 (rowOf 5 3 2 ((3, 2) ∷ []) []) ∷ []) ≡ passed ∷ told 10 3 2 ∷ []
+unfolding computing
+own-future = refl
+
+bad-signature : edge (closed 1 0 0 (rowOf 5 3 1 [] []) ∷ []) (closed 0 0 0 (rowOf 5 3 1 [] []) ∷ []) ≡ passed ∷ told 12 3 1 ∷ []
+unfolding computing
+bad-signature = refl
+
+-- "same author and sequence as a working row, other content": another payload
+conflict : edge (given 0 r21 ∷ given 0 r21 ∷ []) (given 0 r21 ∷ given 0 (rowOf 3 2 1 ((1, 1) ∷ []) (9 ∷ [])) ∷ []) ≡ passed ∷ told 13 2 1 ∷ []
+unfolding computing
+conflict = refl
+
+-- payload bytes are counted, signatures are not
+held-bytes : edge (given 0 (signed (7 ∷ 7 ∷ 7 ∷ []) (rowOf 3 2 1 ((1, 1) ∷ []) (1 ∷ 2 ∷ []))) ∷ [])
+    (given 0 (rowOf 3 2 1 ((1, 1) ∷ []) (1 ∷ 2 ∷ [])) ∷ given 0 (rowOf 3 3 1 ((1, 1) ∷ []) (3 ∷ [])) ∷ []) ≡ passed ∷ told 15 2 0 ∷ []
+unfolding computing
+held-bytes = refl
+
+-- "lowest author named": 7 and 4 hold two rows each, 5 holds one
+author-overflow : edge (given 0 (rowOf 1 7 2 [] []) ∷ given 0 (rowOf 2 4 2 [] []) ∷ [])
+    (given 0 (rowOf 1 7 2 [] []) ∷ given 0 (rowOf 1 7 3 [] []) ∷ given 0 (rowOf 2 4 2 [] []) ∷ given 0 (rowOf 2 4 3 [] []) ∷ given 0 (rowOf 3 5 2 [] []) ∷ [])
+    ≡ passed ∷ told 16 1 4 ∷ []
+unfolding computing
+author-overflow = refl
+
+-- a log with room for two rows
+log-full : toldBy (merge 2 (limits 64 1000) 1000 (emptyStore none) (given 0 r11 ∷ given 0 r21 ∷ []))
+    ∷ toldBy (merge 2 (limits 64 1000) 1000 (emptyStore none) (given 0 r11 ∷ given 0 r21 ∷ given 0 (rowOf 8 1 2 [] []) ∷ [])) ∷ []
+    ≡ passed ∷ told 17 0 0 ∷ []
+unfolding computing
+log-full = refl
+
+-- so many authors from an author on, each with number 1, and each with a watermark
+entriesFrom : ℕ → ℕ → List (ℕ × ℕ)
+entriesFrom a zero = []
+entriesFrom a (suc n) = (a, 1) ∷ entriesFrom (suc a) n
+
+marksFrom : ℕ → ℕ → List Mark
+marksFrom a zero = []
+marksFrom a (suc n) = record { author = a; stamp = stampOf 1 a } ∷ marksFrom (suc a) n
+
+-- a new author's first row, on a store whose clock has so many authors, and so many watermarks
+abbrev another : ℕ → ℕ → Told
+another clock marks =
+    toldBy (merge 10 (limits 64 1000) 1000 (record { log = []; held = []; floor = none; clock = entriesFrom 10 clock; compacted = []; marks = marksFrom 10 marks })
+    (given 0 r11 ∷ []))
+
+authors-full : another 31 31 ∷ another 32 31 ∷ another 31 32 ∷ [] ≡ passed ∷ told 18 0 0 ∷ told 18 0 0 ∷ []
+unfolding computing entriesFrom marksFrom
+authors-full = refl

@@ -15,7 +15,7 @@ use Rattle.log.specs.Store.{Store}
 use Rattle.log.specs.Areas.{Areas, capacity, readStore}
 use Rattle.log.specs.Calls.{insert, insertAll, fits}
 use Rattle.merging.specs.Batch.{Limits, limitsOk, readBatch, validateAll}
-use Rattle.merging.specs.Merging.{unexpired, Admitted, admitAll, quotas, Merged, commit, report, settle, finish, merge}
+use Rattle.merging.specs.Merging.{unexpired, Admitted, admitAll, lines, quotas, Merged, commit, report, settle, finish, merge}
 use Rattle.merging.specs.Calls.{roomFor, batchAnswer}
 
 -- an answer is no refusal
@@ -65,6 +65,8 @@ pub record Went (cap : ℕ) (l : Limits) (time : ℕ) (s : Store) (rows : List B
   pub within : Fits cap (commit s (settle s admitted))
   pub store : m .store ≡ commit s (settle s admitted)
   pub told : m .report ≡ report s (unexpired (time - l .maxPendingAge) (s .held)) admitted (settle s admitted)
+  -- "for each logged row, in logging order, 18 bytes": no line more, and none of another row
+  pub lines-are : m .lines ≡ lines (s .floor) (settle s admitted .logged)
 
 the-unit : (u : Unit) → u ≡ unit
 the-unit unit = refl
@@ -87,6 +89,7 @@ went cap l time s rows m e =
       within = fit;
       store = cc;
       told = cc;
+      lines-are = cc;
     }
 
 -- 4, 2, 1, 3 and 4, and 2 were passed, and the store that the areas hold was merged with the rows that the batch holds
