@@ -1,18 +1,21 @@
 -- What the first ready row is, and an induction over draining. Assumes nothing.
-use Prim.Native.Nat.{ℕ, zero, suc, _+_, _≤_}
+use Prim.Native.Nat.{ℕ, zero, suc, _+_, _≤_, _<_}
 use mathlib.Core.Path.{_≡_, refl, ap}
 use mathlib.Core.Logic.{_⊎_, inl, inr}
-use mathlib.Core.Bool.{Bool, true, false}
+use mathlib.Core.Bool.{Bool, true, false, _&&_}
 use mathlib.Core.List.{List, [], _∷_, _++_, List·Memᴰ, List·Memᴰ·head, List·Memᴰ·tail, List·Memᴰ·not-nil, List·Memᴰ·cases-cons}
 use native.Mathlib.Omega.{arith}
 use lib.Dec.{leb, eqb}
 use lib.ListN.{length}
-use borrow.Author.Tests.{leb-true, le-leb, eqb-true, eqb-false}
+use borrow.Author.Tests.{leb-true, leb-false, le-leb, eqb-true, eqb-false}
 use Rattle.clock.specs.Entries.{get, observe}
 use Rattle.row.specs.Rows.{Row, HeldRow}
+use Rattle.log.specs.Store.{Store}
 use Rattle.log.specs.Areas.{rowsOf}
-use Rattle.merging.specs.Merging.{depsMet, ready, Pick, nobody, found, past, pickBy, firstReady, Drained, Going, tryLog, next, drain}
+use Rattle.merging.specs.Merging.{depsMet, ready, Pick, nobody, found, past, pickBy, firstReady, Admitted, Drained, Going, tryLog, next, drain, settle}
 use Rattle.merging.specs.Offers.{Sorted}
+use Rattle.words.proofs.Words.{test}
+use Rattle.clock.proofs.Lex.{clash}
 use Rattle.words.proofs.Both.{and-left, and-right, and-both}
 use Rattle.merging.proofs.Listing.{last-cases}
 
@@ -78,17 +81,24 @@ unfolding depsMet
 deps-met c [] f = refl
 deps-met c ((b, k) ∷ ds) f = and-both _ _ (le-leb k (get c b) (f b k (List·Memᴰ·head refl))) (deps-met c ds (λ a n m. f a n (List·Memᴰ·tail m)))
 
+-- the test of the sequence beside another, as a fact
+reach-yes : (a b : ℕ) (t : Bool) → leb a b && t ≡ true → a ≤ b
+reach-yes a b t e = leb-true a b (and-left _ _ e)
+
+reach-no : (t : Bool) → t ≡ true → (a b : ℕ) → leb a b && t ≡ false → b < a
+reach-no t h a b e = elim (test (leb a b)) [ inl k ↦ absurd (clash (and-both _ _ k h) e) | inr k ↦ leb-false a b k ]
+
 pub ready-seq : (c : List (ℕ × ℕ)) (r : Row) → ready c r ≡ true → r .seq ≤ suc (get c (r .author))
 unfolding ready
-ready-seq c r e = leb-true _ _ (and-left _ _ e)
+ready-seq c r e = omega (arith, reach-yes)
 
 pub ready-deps : (c : List (ℕ × ℕ)) (r : Row) → ready c r ≡ true → (a n : ℕ) → List·Memᴰ (a, n) (r .deps) → n ≤ get c a
 unfolding ready
-ready-deps c r e = deps-yes c (r .deps) (and-right (leb (r .seq) (suc (get c (r .author)))) _ e)
+ready-deps c r e = deps-yes c (r .deps) (search and-right)
 
 pub is-ready : (c : List (ℕ × ℕ)) (r : Row) → r .seq ≤ suc (get c (r .author)) → ((a n : ℕ) → List·Memᴰ (a, n) (r .deps) → n ≤ get c a) → ready c r ≡ true
 unfolding ready
-is-ready c r h f = and-both _ _ (le-leb _ _ h) (deps-met c (r .deps) f)
+is-ready c r h f = elim (test (ready c r)) [ inl t ↦ t | inr t ↦ absurd (omega (arith, reach-no (depsMet c (r .deps)) (deps-met c (r .deps) f))) ]
 
 -- ---- the first ready row
 
@@ -145,11 +155,16 @@ module _ (P : List (ℕ × ℕ) → List HeldRow → List HeldRow → ℕ → Ty
   drained zero c w l d len h = (h, none-left c w len)
   drained (suc n) c w l d len h = go-next n (λ c w l d. drain n c w l d) (λ c w l d. drained n c w l d) c w l d len h (firstReady c w) (picked c w)
 
+  -- the fuel of `settle` is enough
+  pub settled : (s : Store) (a : Admitted) → P (s .clock) (a .working) [] 0 → Ends P (settle s a)
+  unfolding settle
+  settled s a h = drained _ (s .clock) (a .working) [] 0 (omega arith) h
+
 -- what holds of each working row holds of each that waits on or is logged
-pub drain-every : (Q : HeldRow → Type 0) (n : ℕ) (c : List (ℕ × ℕ)) (w : List HeldRow) → length w ≤ n → ((h : HeldRow) → List·Memᴰ h w → Q h)
-    → ((h : HeldRow) → List·Memᴰ h (drain n c w [] 0 .waiting) → Q h) × ((h : HeldRow) → List·Memᴰ h (drain n c w [] 0 .logged) → Q h)
-drain-every Q n c w len f =
-    drained (λ c w l d. ((h : HeldRow) → List·Memᴰ h w → Q h) × ((h : HeldRow) → List·Memᴰ h l → Q h))
+pub settle-every : (Q : HeldRow → Type 0) (s : Store) (a : Admitted) → ((h : HeldRow) → List·Memᴰ h (a .working) → Q h)
+    → ((h : HeldRow) → List·Memᴰ h (settle s a .waiting) → Q h) × ((h : HeldRow) → List·Memᴰ h (settle s a .logged) → Q h)
+settle-every Q s a f =
+    settled (λ c w l d. ((h : HeldRow) → List·Memᴰ h w → Q h) × ((h : HeldRow) → List·Memᴰ h l → Q h))
     (λ c w l d k rest e t q p. (λ h m. p .0 h (taken-rest t h m), λ h m. elim (last-cases l k m) [ inl x ↦ rw x (p .0 k (taken-self t)) | inr y ↦ p .1 h y ]))
     (λ c w l d k rest e t q p. (λ h m. p .0 h (taken-rest t h m), p .1))
-    n c w [] 0 len (f, λ h m. absurd (List·Memᴰ·not-nil m)) .0
+    s a (f, λ h m. absurd (List·Memᴰ·not-nil m)) .0

@@ -6,7 +6,6 @@ use mathlib.Core.Bool.{true, false}
 use mathlib.Core.List.{List, [], _∷_, _++_, append-assoc, append-nil, List·Memᴰ, Memᴰ·cast}
 use native.Mathlib.Omega.{arith}
 use lib.Dec.{eqb}
-use lib.ListN.{length}
 use borrow.Author.Tests.{eqb-true, eqb-false, not-true, not-false}
 use Rattle.words.proofs.Words.{test}
 use Rattle.error.specs.Answer.{done}
@@ -20,14 +19,14 @@ use Rattle.row.specs.Reading.{BatchRow}
 use Rattle.log.specs.Store.{Store}
 use Rattle.log.specs.Areas.{rowsOf}
 use Rattle.log.specs.Calls.{insertRow, insert, insertAll}
-use Rattle.merging.specs.Merging.{ready, Admitted, arrived, admitAll, drain}
+use Rattle.merging.specs.Merging.{ready, Admitted, arrived, admitAll, settle}
 use Rattle.merging.specs.Offers.{batchRows, count, CausalListing, logLess, Sorted, Within, OneContent}
 use Rattle.merging.proofs.Sorting.{place, place-self, place-old, place-cases, count-place, place-sorted}
 use Rattle.merging.proofs.Orders.{work-trans, work-irrefl, work-total, log-below, log-level, log-trans}
 use Rattle.merging.proofs.Clocks.{observe-put, get-next, get-others, Positive, positive-put}
 use Rattle.merging.proofs.Listing.{count-none, count-same, count-other, count-last, count-not-last, last-old, last-self, last-cases, listed-offered, listed-last, listed-bound, listed-at}
 use Rattle.merging.proofs.Rows.{rows-mem, rows-last, goesBefore, enter-rows, older, insert-place, insert-last}
-use Rattle.merging.proofs.Draining.{Taken, taken-self, taken-rest, taken-cases, taken-rows, taken-sorted, taken-apart, ready-seq, ready-deps, Ends, drained}
+use Rattle.merging.proofs.Draining.{Taken, taken-self, taken-rest, taken-cases, taken-rows, taken-sorted, taken-apart, ready-seq, ready-deps, Ends, settled}
 use Rattle.merging.proofs.Admitting.{Admits, old, again, new, admitted}
 
 -- refusals 5 and 6: an offered row has a sequence above 0, and its stamp is its author's
@@ -219,11 +218,10 @@ module _ (o : List Row) (one : OneContent o) (valid : (y : Row) → List·Memᴰ
           none-dropped = k .none-dropped;
         }
 
-    pub settles : (n : ℕ) (c : List (ℕ × ℕ)) (w : List HeldRow) → length w ≤ n → s .clock ≡ c → Inv o p c ls (s .log) (rowsOf w)
-        → Ends (Settled p s ls) (drain n c w [] 0)
+    pub settles : (a : Admitted) → Inv o p (s .clock) ls (s .log) (rowsOf (a .working)) → Ends (Settled p s ls) (settle s a)
     unfolding insertAll rowsOf
-    settles n c w len e i =
-        drained (Settled p s ls) settles-log
+    settles a i =
+        settled (Settled p s ls) settles-log
         (λ c w l d h rest rd t ne k. absurd (ne (is-next (k .inv) (h .row) rd (taken-rows t))))
-        n c w [] 0 len
-        (record { inv = rw (append-nil ls) i; clock-is = e; none-dropped = refl })
+        s a
+        (record { inv = rw (append-nil ls) i; clock-is = refl; none-dropped = refl })

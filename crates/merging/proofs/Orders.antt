@@ -4,7 +4,7 @@ use mathlib.Core.Path.{_≡_, refl, _∙_}
 use mathlib.Core.Logic.{_⊎_, inl, inr}
 use mathlib.Core.Bool.{true, false}
 use native.Mathlib.Omega.{arith}
-use borrow.Author.Tests.{ltb-true, lt-ltb}
+use borrow.Author.Tests.{leb-true, le-leb}
 use Rattle.words.proofs.Words.{test}
 use Rattle.clock.specs.Order.{stampKey, stampLess}
 use Rattle.clock.proofs.Lex.{clash, less-irreflexive, less-transitive, less-total, stamp-irreflexive, stamp-transitive, stamp-total}
@@ -39,7 +39,7 @@ log-below r s h = rw h
 
 pub log-level : (r s : Row) → r .stamp ≡ s .stamp → s .seq < r .seq → logLess r s ≡ true
 unfolding logLess
-log-level r s e h = rw (e, stamp-irreflexive (s .stamp)) (lt-ltb (s .seq) (r .seq) h)
+log-level r s e h = rw (e, stamp-irreflexive (s .stamp)) (omega (arith, le-leb))
 
 pub log-cases : (r s : Row) → logLess r s ≡ true → (stampLess (r .stamp) (s .stamp) ≡ true) ⊎ ((r .stamp ≡ s .stamp) × (s .seq < r .seq))
 unfolding logLess
@@ -47,7 +47,9 @@ log-cases r s t = elim (test (stampLess (r .stamp) (s .stamp))) [
   | inl h ↦ inl h
   | inr h ↦ elim (test (stampLess (s .stamp) (r .stamp))) [
     | inl k ↦ absurd (clash (rw (h, k) at t) refl)
-    | inr k ↦ inr (stamp-total (r .stamp) (s .stamp) h k, ltb-true _ _ (rw (h, k) at t))
+    | inr k ↦
+        let u = rw (h, k) at t in
+        inr (stamp-total (r .stamp) (s .stamp) h k, omega (arith, leb-true))
   ]
 ]
 

@@ -1,11 +1,11 @@
 -- Rows of held rows, rows put in their places, rows inserted one after the other. Assumes nothing.
 use Prim.Native.Nat.{ℕ, _≤_}
 use mathlib.Core.Path.{_≡_, refl, ap}
-use mathlib.Core.Logic.{inl, inr}
+use mathlib.Core.Logic.{_⊎_, inl, inr}
 use mathlib.Core.Bool.{Bool, true, false, not}
 use mathlib.Core.List.{List, [], _∷_, _++_, List·Memᴰ, List·Memᴰ·head, List·Memᴰ·tail, List·Memᴰ·not-nil, List·Memᴰ·cases-cons}
-use lib.Dec.{leb}
-use borrow.Author.Tests.{le-leb}
+use native.Mathlib.Omega.{arith}
+use borrow.Author.Tests.{leb-false}
 use Rattle.words.specs.Choice.{pick}
 use Rattle.words.proofs.Words.{test}
 use Rattle.clock.specs.Order.{stampLess}
@@ -14,6 +14,7 @@ use Rattle.log.specs.Store.{Store}
 use Rattle.log.specs.Areas.{rowsOf}
 use Rattle.log.specs.Calls.{insertRow, insert, insertAll}
 use Rattle.merging.specs.Merging.{expireBy, unexpired, enterBy, enter}
+use Rattle.merging.specs.Offers.{Sorted}
 use Rattle.merging.proofs.Sorting.{place}
 
 -- ---- the rows of held rows
@@ -82,17 +83,41 @@ insert-last s (x ∷ rows) r = insert-last (insert s x) rows r
 
 -- ---- expiring
 
+expire-cases : (b : Bool) (k : HeldRow) (hs : List HeldRow) (h : HeldRow) → List·Memᴰ h (expireBy b k hs) → (h ≡ k) ⊎ List·Memᴰ h hs
+unfolding expireBy
+expire-cases true k hs h m = List·Memᴰ·cases-cons m
+expire-cases false k hs h m = inr m
+
 pub unexpired-old : (cutoff : ℕ) (hs : List HeldRow) (h : HeldRow) → List·Memᴰ h (unexpired cutoff hs) → List·Memᴰ h hs
-unfolding unexpired expireBy
+unfolding unexpired
 unexpired-old cutoff [] h m = m
-unexpired-old cutoff (k ∷ hs) h m = elim (test (leb cutoff (k .arrival))) [
-  | inl e ↦ elim (List·Memᴰ·cases-cons (rw e at m)) [ inl p ↦ List·Memᴰ·head p | inr j ↦ List·Memᴰ·tail (unexpired-old cutoff hs h j) ]
-  | inr e ↦ List·Memᴰ·tail (unexpired-old cutoff hs h (rw e at m))
+unexpired-old cutoff (k ∷ hs) h m = elim (expire-cases _ k (unexpired cutoff hs) h m) [
+  | inl e ↦ List·Memᴰ·head e
+  | inr j ↦ List·Memᴰ·tail (unexpired-old cutoff hs h j)
 ]
+
+expire-not : (b : Bool) (k : HeldRow) (hs : List HeldRow) → (b ≡ false → ⊥) → expireBy b k hs ≡ k ∷ hs
+unfolding expireBy
+expire-not true k hs f = refl
+expire-not false k hs f = absurd (f refl)
 
 -- nothing expires that arrived late enough
 pub unexpired-all : (cutoff : ℕ) (hs : List HeldRow) → ((h : HeldRow) → List·Memᴰ h hs → cutoff ≤ h .arrival) → unexpired cutoff hs ≡ hs
-unfolding unexpired expireBy
+unfolding unexpired
 unexpired-all cutoff [] f = refl
 unexpired-all cutoff (k ∷ hs) f =
-    rw (le-leb cutoff (k .arrival) (f k (List·Memᴰ·head refl))) (ap (λ (l : List HeldRow). k ∷ l) (unexpired-all cutoff hs (λ h m. f h (List·Memᴰ·tail m))))
+    let late : cutoff ≤ k .arrival = f k (List·Memᴰ·head refl) in
+    rw (unexpired-all cutoff hs (λ h m. f h (List·Memᴰ·tail m))) (expire-not _ k hs (λ e. omega (arith, leb-false)))
+
+-- what is in order stays so
+expire-sorted : (less : Row → Row → Bool) (b : Bool) (k : HeldRow) (hs : List HeldRow) → Sorted less (k .row ∷ rowsOf hs) → Sorted less (rowsOf (expireBy b k hs))
+unfolding expireBy rowsOf
+expire-sorted less true k hs s = s
+expire-sorted less false k hs (Sorted.more f s) = s
+
+pub sorted-unexpired : (less : Row → Row → Bool) (cutoff : ℕ) (hs : List HeldRow) → Sorted less (rowsOf hs) → Sorted less (rowsOf (unexpired cutoff hs))
+unfolding unexpired rowsOf
+sorted-unexpired less cutoff [] s = s
+sorted-unexpired less cutoff (h ∷ hs) (Sorted.more f s) =
+    let old = rows-every (λ y. List·Memᴰ y (rowsOf hs)) (unexpired cutoff hs) (λ k m. rows-mem hs (unexpired-old cutoff hs k m)) in
+    expire-sorted less _ h (unexpired cutoff hs) (Sorted.more {r = h .row} {rows = rowsOf (unexpired cutoff hs)} (λ y m. f y (old y m)) (sorted-unexpired less cutoff hs s))

@@ -4,7 +4,6 @@ use mathlib.Core.Path.{_≡_, refl, sym}
 use mathlib.Core.Logic.{inl, inr}
 use mathlib.Core.Bool.{Bool, true, false, not}
 use mathlib.Core.List.{List, [], _∷_, List·Memᴰ, List·Memᴰ·head, List·Memᴰ·tail, List·Memᴰ·not-nil, List·Memᴰ·cases-cons}
-use native.Mathlib.Nat.{le-refl}
 use native.Mathlib.Omega.{arith}
 use lib.Dec.{eqb, leb}
 use lib.ListN.{length}
@@ -20,7 +19,7 @@ use Rattle.row.specs.Reading.{BatchRow}
 use Rattle.log.specs.Store.{Floor, none, floor, Store, all, belowNext, heldRise, sameId, absentFrom, noTwice, stampOk, floorOk, rules}
 use Rattle.log.specs.Areas.{rowsOf}
 use Rattle.merging.specs.Batch.{Limits, limitsOk}
-use Rattle.merging.specs.Merging.{expireBy, unexpired, Admitted, arrived, admitAll, quotas, Drained, drain, settle, commit, Merged, merge}
+use Rattle.merging.specs.Merging.{Admitted, arrived, admitAll, quotas, Drained, settle, commit, Merged, merge}
 use Rattle.merging.specs.Calls.{raiseFloor, withFloor}
 use Rattle.merging.specs.Offers.{Sorted}
 use Rattle.merging.specs.Steps.{unless-done, Went, went}
@@ -28,8 +27,8 @@ use Rattle.log.proofs.Rules.{all-head, all-tail, all-cons, all-nil, all-rows, K
 use Rattle.log.proofs.Keeping.{insert-all-rules}
 use Rattle.merging.proofs.Sorting.{place, place-cases, place-sorted}
 use Rattle.merging.proofs.Orders.{work-trans, work-total}
-use Rattle.merging.proofs.Rows.{rows-mem, rows-every, goesBefore, enter-rows, unexpired-old}
-use Rattle.merging.proofs.Draining.{Taken, taken-rows, taken-sorted, drained, drain-every}
+use Rattle.merging.proofs.Rows.{goesBefore, enter-rows, unexpired-old, sorted-unexpired}
+use Rattle.merging.proofs.Draining.{Taken, taken-rows, taken-sorted, settled, settle-every}
 use Rattle.merging.proofs.Admitting.{Admits, old, again, new, admitted, admit-every}
 
 -- ---- tests of each, and of neighbours
@@ -105,18 +104,6 @@ pub record InOrder (hs : List HeldRow) : Type 0 where
   pub rises : Sorted workLess (rowsOf hs)
   pub differs : Sorted differ (rowsOf hs)
 
-unexpired-rows : (cutoff : ℕ) (hs : List HeldRow) (y : Row) → List·Memᴰ y (rowsOf (unexpired cutoff hs)) → List·Memᴰ y (rowsOf hs)
-unexpired-rows cutoff hs = rows-every (λ y. List·Memᴰ y (rowsOf hs)) (unexpired cutoff hs) (λ h m. rows-mem hs (unexpired-old cutoff hs h m))
-
-sorted-unexpired : (less : Row → Row → Bool) (cutoff : ℕ) (hs : List HeldRow) → Sorted less (rowsOf hs) → Sorted less (rowsOf (unexpired cutoff hs))
-unfolding unexpired expireBy rowsOf
-sorted-unexpired less cutoff [] s = s
-sorted-unexpired less cutoff (h ∷ hs) (Sorted.more f s) =
-    elim (leb cutoff (h .arrival)) as (λ b. Sorted less (rowsOf (expireBy b h (unexpired cutoff hs)))) [
-      | true ↦ Sorted.more (λ y m. f y (unexpired-rows cutoff hs y m)) (sorted-unexpired less cutoff hs s)
-      | false ↦ sorted-unexpired less cutoff hs s
-    ]
-
 -- a row that differs from all goes anywhere
 place-differs : (stays : Row → Bool) (r : Row) {l : List Row} → ((x : Row) → List·Memᴰ x l → (differ r x ≡ true) × (differ x r ≡ true)) → Sorted differ l
     → Sorted differ (place stays r l)
@@ -148,12 +135,12 @@ module _ (clock : List (ℕ × ℕ)) (time : ℕ) where
   order-admits rows a r e i =
       admitted clock time (λ p w. InOrder w) rows (λ p a b r m d i. order-admit p a b r d i) rows (λ b m. m) [] a r e i
 
-pub order-drain : (n : ℕ) (c : List (ℕ × ℕ)) (w : List HeldRow) → length w ≤ n → InOrder w → InOrder (drain n c w [] 0 .waiting)
-order-drain n c w len i =
-    drained (λ c w l d. InOrder w) (λ c w l d h rest e t q k. taken t k) (λ c w l d h rest e t q k. taken t k) n c w [] 0 len i .0
-  where
-    taken : {h : HeldRow} {rest w : List HeldRow} → Taken h rest w → InOrder w → InOrder rest
-    taken t k = record { rises = taken-sorted workLess (taken-rows t) (k .rises); differs = taken-sorted differ (taken-rows t) (k .differs) }
+order-taken : {h : HeldRow} {rest w : List HeldRow} → Taken h rest w → InOrder w → InOrder rest
+order-taken t k = record { rises = taken-sorted workLess (taken-rows t) (k .rises); differs = taken-sorted differ (taken-rows t) (k .differs) }
+
+order-settle : (s : Store) (a : Admitted) → InOrder (a .working) → InOrder (settle s a .waiting)
+order-settle s a i =
+    settled (λ c w l d. InOrder w) (λ c w l d h rest e t q k. order-taken t k) (λ c w l d h rest e t q k. order-taken t k) s a i .0
 
 -- ---- an accepted batch
 
@@ -190,13 +177,11 @@ module _ (cap : ℕ) (l : Limits) (time : ℕ) (s : Store) (rows : List BatchRow
       (λ h n. all-every heldOk (s .held) (k .held-rows) h (unexpired-old _ (s .held) h n))
 
   drained-ok : ((h : HeldRow) → List·Memᴰ h (d .waiting) → heldOk h ≡ true) × ((h : HeldRow) → List·Memᴰ h (d .logged) → heldOk h ≡ true)
-  unfolding settle
-  drained-ok = drain-every (λ h. heldOk h ≡ true) (length (w .admitted .working)) (s .clock) (w .admitted .working) (le-refl _) working-ok
+  drained-ok = settle-every (λ h. heldOk h ≡ true) s (w .admitted) working-ok
 
   waiting-order : InOrder (d .waiting)
-  unfolding settle
   waiting-order =
-      order-drain (length (w .admitted .working)) (s .clock) (w .admitted .working) (le-refl _)
+      order-settle s (w .admitted)
       (order-admits (s .clock) time rows _ (w .admitted) (w .admits)
       (record {
         rises = sorted-unexpired workLess _ (s .held) (rise-sorted (s .held) (k .keys));

@@ -3,14 +3,14 @@
 use Prim.Native.Nat.{ℕ, _-_}
 use mathlib.Core.Path.{_≡_, refl, sym, ap}
 use mathlib.Core.Logic.{inl, inr}
-use mathlib.Core.Bool.{not}
+use mathlib.Core.Bool.{Bool, true, false}
 use mathlib.Core.List.{List, [], _∷_, _++_, List·Memᴰ, List·Memᴰ·head, List·Memᴰ·tail, List·Memᴰ·not-nil, List·Memᴰ·cases-cons, List·Memᴰ·append-cases, Memᴰ·append-left, Memᴰ·append-right}
-use native.Mathlib.Nat.{le-refl}
 use native.Mathlib.Omega.{arith}
 use lib.Dec.{eqb}
-use lib.ListN.{length}
-use borrow.Author.Tests.{eqb-true, eqb-false, not-true}
-use Rattle.error.specs.Answer.{done, Unit}
+use borrow.Author.Tests.{eqb-true}
+use Rattle.words.proofs.Words.{test}
+use Rattle.error.specs.declared.Refusal.{Refusal}
+use Rattle.error.specs.Answer.{done, refused, unless, Unit}
 use Rattle.clock.specs.declared.stamp.Timestamp.{Timestamp}
 use Rattle.clock.specs.Entries.{get}
 use Rattle.clock.proofs.Rising.{Rises}
@@ -23,10 +23,10 @@ use Rattle.merging.specs.Batch.{Limits, validate, validateAll}
 use Rattle.merging.specs.Merging.{unexpired, Admitted, Drained, settle, commit, Merged, merge}
 use Rattle.merging.specs.Calls.{withFloor}
 use Rattle.merging.specs.Offers.{batchRows, Accepted, Spans, OneContent, count, ListedAfter, Sorted, Within}
-use Rattle.merging.specs.Steps.{unless-done, then-done, insert-held, went}
+use Rattle.merging.specs.Steps.{not-refused, then-done, insert-held, went}
 use Rattle.merging.proofs.Listing.{count-none, last-self, listed-more}
 use Rattle.merging.proofs.Rows.{unexpired-all}
-use Rattle.merging.proofs.Draining.{Idle, drain-every}
+use Rattle.merging.proofs.Draining.{Idle, settle-every}
 use Rattle.merging.proofs.Admitting.{admit-every}
 use Rattle.merging.proofs.Keeps.{Valid, Inv, keeps-admits, settles}
 
@@ -55,12 +55,27 @@ pub record Good (o : List Row) (t : List Accepted) (s : Store) : Type 0 where
 
 -- ---- refusals 5 and 6
 
-valid-row : (l : Limits) (time : ℕ) (b : BatchRow) {u : Unit} → validate l time b ≡ done u → Valid (b .row)
+zero-refused : (l : Limits) (time : ℕ) (b : BatchRow) {u : Unit} → b .row .seq ≡ 0 → validate l time b ≡ done u → ⊥
 unfolding validate
+zero-refused l time b z e = not-refused (rw z at e)
+
+unless-refused : (t : Bool) (r f : Refusal) (u : Unit) → unless t r (refused f) ≡ done u → ⊥
+unless-refused true r f u e = not-refused e
+unless-refused false r f u e = not-refused e
+
+foreign-refused : (l : Limits) (time : ℕ) (b : BatchRow) {u : Unit} → eqb (b .row .stamp .«actor_id» .0) (b .row .author) ≡ false → validate l time b ≡ done u → ⊥
+unfolding validate
+foreign-refused l time b f e =
+    let g = rw f at e in
+    search unless-refused
+
+valid-row : (l : Limits) (time : ℕ) (b : BatchRow) {u : Unit} → validate l time b ≡ done u → Valid (b .row)
 valid-row l time b e =
-    let (p, e₁) = unless-done (not (eqb (b .row .seq) 0)) _ _ e in
-    let (q, e₂) = unless-done (eqb (b .row .stamp .«actor_id» .0) (b .row .author)) _ _ e₁ in
-    record { first = omega (arith, eqb-false (b .row .seq) 0 (not-true (eqb (b .row .seq) 0) p)); own = eqb-true _ _ q }
+    let above : b .row .seq ≡ 0 → ⊥ = λ z. zero-refused l time b z e in
+    record {
+      first = omega (arith, above);
+      own = elim (test (eqb (b .row .stamp .«actor_id» .0) (b .row .author))) [ inl h ↦ eqb-true _ _ h | inr h ↦ absurd (foreign-refused l time b h e) ];
+    }
 
 valid-rows : (l : Limits) (time : ℕ) (rows : List BatchRow) {u : Unit} → validateAll l time rows ≡ done u → (y : Row) → List·Memᴰ y (batchRows rows) → Valid y
 unfolding validateAll batchRows
@@ -143,13 +158,12 @@ module _ {o : List Row} {t : List Accepted} {s : Store} (l : Limits) (time : ℕ
       let d : Drained = settle s a in
       let base : Store =
       record { log = s .log; held = d .waiting; floor = s .floor; clock = s .clock; compacted = s .compacted; marks = s .marks } in
-      let len = le-refl (length (a .working)) in
-      let ends = settles (o ++ batchRows rows) one valid (o ++ batchRows rows) base (G .listing) (length (a .working)) (s .clock) (a .working) len refl working in
+      let ends = settles (o ++ batchRows rows) one valid (o ++ batchRows rows) base (G .listing) a working in
       let held : insertAll base (rowsOf (d .logged)) .held ≡ d .waiting = insert-held base (rowsOf (d .logged)) in
       let came = admit-every (s .clock) time (Arrived (t ++ (accepting time l ∷ []))) rows _ a admits
       (λ b k. (accepting time l, last-self t (accepting time l), refl))
       (λ h k. let (x, n, q) = G .arrivals h k in (x, Memᴰ·append-left _ n, q)) in
-      let arrivals = drain-every (Arrived (t ++ (accepting time l ∷ []))) (length (a .working)) (s .clock) (a .working) len came .0 in
+      let arrivals = settle-every (Arrived (t ++ (accepting time l ∷ []))) s a came .0 in
       rw (w .store) (record {
         listing = G .listing ++ rowsOf (d .logged);
         inv = rw (ends .0 .clock-is, held) (ends .0 .inv);

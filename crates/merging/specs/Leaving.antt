@@ -3,6 +3,7 @@ use Prim.Native.Nat.{ℕ}
 use mathlib.Core.Path.{_≡_, refl, sym}
 use mathlib.Core.List.{List}
 use lib.ListN.{length, replicate}
+use Rattle.words.specs.Areas.{putAt}
 use Rattle.error.specs.declared.Refusal.{Refusal}
 use Rattle.error.specs.Answer.{Answer, done, refused, andThen, unit}
 use Rattle.clock.specs.declared.stamp.Timestamp.{Timestamp}
@@ -22,7 +23,7 @@ pub record Unchanged (a : Areas) (scratch output : List ℕ) (b : Batched) : Typ
 
 pub refused-leaves : (a : Areas) (l : Limits) (time : ℕ) (batch scratch output : List ℕ) (r : Refusal)
     → batchCall a l time batch scratch output .answer ≡ refused r → Unchanged a scratch output (batchCall a l time batch scratch output)
-unfolding batchCall batched
+unfolding batchCall batched putAt
 refused-leaves a l time batch scratch output r = by-answer (batchAnswer a l time batch scratch output)
   where
     by-answer : (x : Answer Merged) → batched a scratch output x .answer ≡ refused r → Unchanged a scratch output (batched a scratch output x)
