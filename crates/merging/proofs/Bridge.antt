@@ -1,16 +1,17 @@
 -- From the calls over bytes to the run on store values: each call gets the areas as the last one left them, and they hold the store of the run. Assumes
 -- nothing.
-use Prim.Native.Nat.{ℕ, _<_, _^_}
+use Prim.Native.Nat.{ℕ, _<_, _≤_, _^_}
 use mathlib.Core.Path.{_≡_, refl}
 use mathlib.Core.Bool.{true}
 use mathlib.Core.List.{List, [], _∷_, _++_, append-assoc, append-nil, List·Memᴰ, List·Memᴰ·head, List·Memᴰ·tail}
+use lib.ListN.{length}
 use Rattle.words.specs.Be.{Bytes}
 use Rattle.error.specs.Answer.{Answer, done, refused}
 use Rattle.clock.specs.declared.stamp.Timestamp.{Timestamp}
 use Rattle.row.specs.Rows.{Row}
-use Rattle.log.specs.Store.{Store, stampOk}
+use Rattle.log.specs.Store.{Store, stampOk, rules}
 use Rattle.log.specs.Areas.{Areas, capacity, readStore, writeStore}
-use Rattle.log.proofs.Store.{read-write, read-rules, read-few, read-long}
+use Rattle.log.proofs.Store.{capacity-write, read-write, read-rules, read-few, read-long}
 use Rattle.merging.specs.Batch.{Limits, readBatch}
 use Rattle.merging.specs.Merging.{Merged, merge}
 use Rattle.merging.specs.Calls.{batchAnswer, batched, batchCall, withFloor, setFloorCall}
@@ -23,21 +24,36 @@ use Rattle.merging.proofs.Runs.{accepting, Run}
 -- ---- the areas after one call
 
 module _ (a : Areas) (s : Store) (holds : readStore a ≡ done s) where
-  -- after an accepted batch they hold the merged store
-  pub batch-holds : (l : Limits) (time : ℕ) (b scratch output : List ℕ) (m : Merged) → time < 2 ^ 64 → Bytes b → Answered a l time b scratch output m
-      → readStore (writeStore a (m .store)) ≡ done (m .store)
-  batch-holds l time b scratch output m now bytes w =
-      let p : w .store ≡ s = cc in
-      let merges : merge (capacity (a .log)) l time s (w .rows) ≡ done m = rw p at (w .merges) in
-      let within = went _ l time s (w .rows) m merges in
-      read-write a (m .store) (read-long a s holds)
-      (merge-rules _ l time s (w .rows) m merges (w .limits) now (brought b bytes (w .rows) (w .brings)) (read-rules a s holds))
-      (rw (within .store) (within .within .log))
+  -- after an accepted batch the merged store keeps the rules and fits
+  module _ (l : Limits) (time : ℕ) (b scratch output : List ℕ) (m : Merged) (now : time < 2 ^ 64) (bytes : Bytes b) (w : Answered a l time b scratch output m) where
+    merges-here : merge (capacity (a .log)) l time s (w .rows) ≡ done m
+    merges-here =
+        let p : w .store ≡ s = cc (w .reads) in
+        rw p at (w .merges)
+
+    batch-rules : rules (m .store) ≡ true
+    batch-rules = merge-rules _ l time s (w .rows) m merges-here (w .limits) now (brought b bytes (w .rows) (w .brings)) (read-rules a s holds)
+
+    batch-few : length (m .store .log) ≤ capacity (a .log)
+    batch-few =
+        let within = went _ l time s (w .rows) m merges-here in
+        rw (within .store) (within .within .log)
+
+    -- so they hold it, with room for as many rows
+    pub batch-holds : readStore (writeStore a (m .store)) ≡ done (m .store)
+    batch-holds = read-write a (m .store) (read-long a s holds) batch-rules batch-few
+
+    pub batch-room : capacity (writeStore a (m .store) .log) ≡ capacity (a .log)
+    batch-room = capacity-write a (m .store) (read-long a s holds) batch-rules batch-few
 
   -- after a floor setting they hold the store with its floor alone changed: log, clock and held rows stay
   pub floor-holds : (t : Timestamp) → stampOk t ≡ true → readStore (setFloorCall a t .areas) ≡ done (withFloor s t)
   unfolding setFloorCall
   floor-holds t h = rw holds (read-write a (withFloor s t) (read-long a s holds) (floor-rules s t h (read-rules a s holds)) (read-few a s holds))
+
+  pub floor-room : (t : Timestamp) → stampOk t ≡ true → capacity (setFloorCall a t .areas .log) ≡ capacity (a .log)
+  unfolding setFloorCall
+  floor-room t h = rw holds (capacity-write a (withFloor s t) (read-long a s holds) (floor-rules s t h (read-rules a s holds)) (read-few a s holds))
 
 -- ---- the areas after every list of calls
 

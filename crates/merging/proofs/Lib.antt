@@ -14,3 +14,5 @@ pub mod Contents
 pub mod Brought
 pub mod Bridge
 pub mod Convergence
+pub mod Tracing
+pub mod Instance
