@@ -14,17 +14,13 @@ use Rattle.log.specs.Store.{Store}
 use Rattle.log.specs.Areas.{rowsOf}
 use Rattle.merging.specs.Merging.{depsMet, ready, Pick, nobody, found, past, pickBy, firstReady, Admitted, Drained, Going, tryLog, next, drain, settle}
 use Rattle.merging.specs.Offers.{Sorted}
+use Rattle.merging.specs.Least.{Taken, here, there}
 use Rattle.words.proofs.Words.{test}
 use Rattle.clock.proofs.Lex.{clash}
 use Rattle.words.proofs.Both.{and-left, and-right, and-both}
 use Rattle.merging.proofs.Listing.{last-cases}
 
 -- ---- a list without one of its elements
-
--- `Taken r rest l`: l is rest with r somewhere in it
-pub data Taken {A : Type 0} (r : A) : List A → List A → Type 0 where
-  here : {l : List A} → Taken r l (r ∷ l)
-  there : {x : A} {rest l : List A} → Taken r rest l → Taken r (x ∷ rest) (x ∷ l)
 
 module _ {A : Type 0} where
   pub taken-self : {r : A} {rest l : List A} → Taken r rest l → List·Memᴰ r l

@@ -105,13 +105,18 @@ trace₁ = record { store = after 1000 none; offers = r21 ∷ r32 ∷ r11 ∷ r2
 abbrev pub trace₂ : Trace
 trace₂ = record { store = after 60 (floor (stampOf 5 1)); offers = r11 ∷ r22 ∷ r32 ∷ r21 ∷ []; accepts = at 70 ∷ at 60 ∷ at 65 ∷ [] }
 
+-- stands for the definitions that read a batch and trace calls
+tracing : ℕ
+unfolding computing trace answerOn readBatch readRows readRow readHead readDeps readPairs readPair readPart readClosing number getVarint judge judged groups ends valueOf partOf outcomeOk batchRows raiseFloor
+tracing = 0
+
 -- over the store as values and the batches' bytes
 computed₁ : trace 4 calls₁ (emptyStore none) ≡ trace₁
-unfolding computing trace answerOn readBatch readRows readRow readHead readDeps readPairs readPair readPart readClosing number getVarint judge judged groups ends valueOf partOf outcomeOk batchRows raiseFloor
+unfolding tracing
 computed₁ = refl
 
 computed₂ : trace 4 calls₂ (emptyStore none) ≡ trace₂
-unfolding computing trace answerOn readBatch readRows readRow readHead readDeps readPairs readPair readPart readClosing number getVarint judge judged groups ends valueOf partOf outcomeOk batchRows raiseFloor
+unfolding tracing
 computed₂ = refl
 
 -- over all 49,992 bytes: they hold an empty store

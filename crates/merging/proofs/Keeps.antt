@@ -21,12 +21,13 @@ use Rattle.log.specs.Areas.{rowsOf}
 use Rattle.log.specs.Calls.{insertRow, insert, insertAll}
 use Rattle.merging.specs.Merging.{ready, Admitted, arrived, admitAll, settle}
 use Rattle.merging.specs.Offers.{batchRows, count, CausalListing, logLess, Sorted, Within, OneContent}
+use Rattle.merging.specs.Least.{Taken}
 use Rattle.merging.proofs.Sorting.{place, place-self, place-old, place-cases, count-place, place-sorted}
 use Rattle.merging.proofs.Orders.{work-trans, work-irrefl, work-total, log-below, log-level, log-trans}
 use Rattle.merging.proofs.Clocks.{observe-put, get-next, get-others, Positive, positive-put}
 use Rattle.merging.proofs.Listing.{count-none, count-same, count-other, count-last, count-not-last, last-old, last-self, last-cases, listed-offered, listed-last, listed-bound, listed-at}
 use Rattle.merging.proofs.Rows.{rows-mem, rows-last, goesBefore, enter-rows, older, insert-place, insert-last}
-use Rattle.merging.proofs.Draining.{Taken, taken-self, taken-rest, taken-cases, taken-rows, taken-sorted, taken-apart, ready-seq, ready-deps, Ends, settled}
+use Rattle.merging.proofs.Draining.{taken-self, taken-rest, taken-cases, taken-rows, taken-sorted, taken-apart, ready-seq, ready-deps, Ends, settled}
 use Rattle.merging.proofs.Admitting.{Admits, old, again, new, admitted}
 
 -- refusals 5 and 6: an offered row has a sequence above 0, and its stamp is its author's

@@ -10,6 +10,7 @@ pub mod Keeps
 pub mod Runs
 pub mod Following
 pub mod Ruling
+pub mod Least
 pub mod Contents
 pub mod Brought
 pub mod Bridge

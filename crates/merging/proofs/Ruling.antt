@@ -19,16 +19,17 @@ use Rattle.row.specs.Reading.{BatchRow}
 use Rattle.log.specs.Store.{Floor, none, floor, Store, all, belowNext, heldRise, sameId, absentFrom, noTwice, stampOk, floorOk, rules}
 use Rattle.log.specs.Areas.{rowsOf}
 use Rattle.merging.specs.Batch.{Limits, limitsOk}
-use Rattle.merging.specs.Merging.{Admitted, arrived, admitAll, quotas, Drained, settle, commit, Merged, merge}
+use Rattle.merging.specs.Merging.{unexpired, Admitted, arrived, admitAll, quotas, Drained, settle, commit, Merged, merge}
 use Rattle.merging.specs.Calls.{raiseFloor, withFloor}
 use Rattle.merging.specs.Offers.{Sorted}
 use Rattle.merging.specs.Steps.{unless-done, Went, went}
 use Rattle.log.proofs.Rules.{all-head, all-tail, all-cons, all-nil, all-rows, Kept, kept, keep}
 use Rattle.log.proofs.Keeping.{insert-all-rules}
+use Rattle.merging.specs.Least.{Taken}
 use Rattle.merging.proofs.Sorting.{place, place-cases, place-sorted}
 use Rattle.merging.proofs.Orders.{work-trans, work-total}
 use Rattle.merging.proofs.Rows.{goesBefore, enter-rows, unexpired-old, sorted-unexpired}
-use Rattle.merging.proofs.Draining.{Taken, taken-rows, taken-sorted, settled, settle-every}
+use Rattle.merging.proofs.Draining.{taken-rows, taken-sorted, settled, settle-every}
 use Rattle.merging.proofs.Admitting.{Admits, old, again, new, admitted, admit-every}
 
 -- ---- tests of each, and of neighbours
@@ -131,7 +132,7 @@ module _ (clock : List (ℕ × ℕ)) (time : ℕ) where
             (λ x m. (is-different (b .row) x (f x m), is-different x (b .row) (λ e q. f x m (sym e) (sym q)))) (i .differs));
       }
 
-  pub order-admits : (rows : List BatchRow) (a r : Admitted) → admitAll clock time a rows ≡ done r → InOrder (a .working) → InOrder (r .working)
+  order-admits : (rows : List BatchRow) (a r : Admitted) → admitAll clock time a rows ≡ done r → InOrder (a .working) → InOrder (r .working)
   order-admits rows a r e i =
       admitted clock time (λ p w. InOrder w) rows (λ p a b r m d i. order-admit p a b r d i) rows (λ b m. m) [] a r e i
 
@@ -141,6 +142,17 @@ order-taken t k = record { rises = taken-sorted workLess (taken-rows t) (k .rise
 order-settle : (s : Store) (a : Admitted) → InOrder (a .working) → InOrder (settle s a .waiting)
 order-settle s a i =
     settled (λ c w l d. InOrder w) (λ c w l d h rest e t q k. order-taken t k) (λ c w l d h rest e t q k. order-taken t k) s a i .0
+
+-- the working rows of a store that keeps its rules, after any batch
+pub working-order : (s : Store) (cutoff time : ℕ) (rows : List BatchRow) (a : Admitted) → rules s ≡ true
+    → admitAll (s .clock) time (record { working = unexpired cutoff (s .held); duplicates = 0 }) rows ≡ done a → InOrder (a .working)
+working-order s cutoff time rows a sound e =
+    let k = kept s sound in
+    order-admits (s .clock) time rows _ a e
+    (record {
+      rises = sorted-unexpired workLess cutoff (s .held) (rise-sorted (s .held) (k .keys));
+      differs = sorted-unexpired differ cutoff (s .held) (twice-sorted (s .held) (k .ids));
+    })
 
 -- ---- an accepted batch
 
@@ -180,13 +192,7 @@ module _ (cap : ℕ) (l : Limits) (time : ℕ) (s : Store) (rows : List BatchRow
   drained-ok = settle-every (λ h. heldOk h ≡ true) s (w .admitted) working-ok
 
   waiting-order : InOrder (d .waiting)
-  waiting-order =
-      order-settle s (w .admitted)
-      (order-admits (s .clock) time rows _ (w .admitted) (w .admits)
-      (record {
-        rises = sorted-unexpired workLess _ (s .held) (rise-sorted (s .held) (k .keys));
-        differs = sorted-unexpired differ _ (s .held) (twice-sorted (s .held) (k .ids));
-      }))
+  waiting-order = order-settle s (w .admitted) (working-order s _ time rows (w .admitted) sound (w .admits))
 
   -- the store with the rows that wait on, before the logged ones are inserted
   abbrev base : Store

@@ -2,6 +2,7 @@ pub mod Batch
 pub mod Merging
 pub mod Calls
 pub mod Offers
+pub mod Least
 pub mod Examples
 pub mod Group
 pub mod Steps
