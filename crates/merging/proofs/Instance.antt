@@ -29,7 +29,7 @@ use Rattle.merging.specs.Batch.{readRows, readBatch}
 use Rattle.merging.specs.Merging.{sameContent}
 use Rattle.merging.specs.Calls.{raiseFloor}
 use Rattle.merging.specs.Offers.{Call, Given, AllGiven, Empty, batchRows, offered, Accepted, accepted, Spans, OneContent, Within, Converges}
-use Rattle.merging.specs.Examples.{stampOf, rowOf, held, emptyStore, limits, computing}
+use Rattle.merging.specs.Examples.{stampOf, rowOf, held, emptyStore, limits, r11, r21, computing}
 use Rattle.merging.proofs.Ruling.{all-every}
 use Rattle.merging.proofs.Contents.{one-row}
 use Rattle.merging.proofs.Convergence.{convergence}
@@ -41,13 +41,7 @@ use Rattle.merging.proofs.Tracing.{answerOn, Trace, trace, Traces, trac
 abbrev pub blank : Areas
 blank = areas (replicate 2816 0) (replicate 45056 0) (replicate 2120 0)
 
--- 1:1, and 2:1 that needs it; 2:2; 3:2, whose author's first row never comes
-abbrev pub r11 : Row
-r11 = rowOf 5 1 1 [] []
-
-abbrev pub r21 : Row
-r21 = rowOf 3 2 1 ((1, 1) ∷ []) []
-
+-- beside 1:1 and 2:1, which needs it: 2:2, and 3:2, whose author's first row never comes
 abbrev pub r22 : Row
 r22 = rowOf 7 2 2 [] (9 ∷ [])
 

@@ -107,17 +107,18 @@ abbrev output : Answer Merged → List ℕ
 output (done m) = m .lines
 output (refused r) = []
 
--- one batch on an empty store, and one whose rows go in two batches
+-- on an empty store with room for ten logged rows, at time 1,000: one batch, and two, one after the other
 abbrev once : Limits → List BatchRow → Answer Merged
 once l rows = merge 10 l 1000 (emptyStore none) rows
 
-abbrev twice : Store → Limits → List BatchRow → List BatchRow → Answer Merged
-twice s l first second = andThen (merge 10 l 1000 s first) (λ m. merge 10 l 1000 (m .store) second)
+abbrev twice : Limits → List BatchRow → List BatchRow → Answer Merged
+twice l first second = andThen (once l first) (λ m. merge 10 l 1000 (m .store) second)
 
-abbrev r11 : Row
+-- 1:1, and 2:1 that needs it
+abbrev pub r11 : Row
 r11 = rowOf 5 1 1 [] []
 
-abbrev r21 : Row
+abbrev pub r21 : Row
 r21 = rowOf 3 2 1 ((1, 1) ∷ []) []
 
 -- stands for the definitions that an example opens
@@ -126,16 +127,16 @@ unfolding limitsOk roomFor be64 logLess merge validateAll validate ownFuture sat
 computing = 0
 
 -- "author 2's row 1 needing 1:1 is held, then 1:1 logs both", in stamp order
-needing-is-held : see (merge 10 (limits 64 1000) 1000 (emptyStore none) (given 0 r21 ∷ [])) ≡ done (record { log = []; held = (2, 1) ∷ [] })
+needing-is-held : see (once (limits 64 1000) (given 0 r21 ∷ [])) ≡ done (record { log = []; held = (2, 1) ∷ [] })
 unfolding computing
 needing-is-held = refl
 
-then-both : see (twice (emptyStore none) (limits 64 1000) (given 0 r21 ∷ []) (given 0 r11 ∷ [])) ≡ done (record { log = (2, 1) ∷ (1, 1) ∷ []; held = [] })
+then-both : see (twice (limits 64 1000) (given 0 r21 ∷ []) (given 0 r11 ∷ [])) ≡ done (record { log = (2, 1) ∷ (1, 1) ∷ []; held = [] })
 unfolding computing
 then-both = refl
 
 -- "limit 1 passes one held row, two is 14"
-limit-one : see (merge 10 (limits 1 1000) 1000 (emptyStore none) (given 0 r21 ∷ [])) ≡ done (record { log = []; held = (2, 1) ∷ [] })
+limit-one : see (once (limits 1 1000) (given 0 r21 ∷ [])) ≡ done (record { log = []; held = (2, 1) ∷ [] })
 unfolding computing
 limit-one = refl
 
@@ -144,12 +145,12 @@ unfolding computing
 limit-two = refl
 
 -- "Quotas are compared after that": two rows pass limit 0 where both are logged
-released-first : see (merge 10 (limits 0 1000) 1000 (emptyStore none) (given 0 r21 ∷ given 0 r11 ∷ [])) ≡ done (record { log = (2, 1) ∷ (1, 1) ∷ []; held = [] })
+released-first : see (once (limits 0 1000) (given 0 r21 ∷ given 0 r11 ∷ [])) ≡ done (record { log = (2, 1) ∷ (1, 1) ∷ []; held = [] })
 unfolding computing
 released-first = refl
 
 -- "equal stamps of one author stand newest first"
-newest-first : see (merge 10 (limits 64 1000) 1000 (emptyStore none) (given 0 (rowOf 7 1 1 [] []) ∷ given 0 (rowOf 7 1 2 [] []) ∷ given 0 (rowOf 7 1 3 [] []) ∷ []))
+newest-first : see (once (limits 64 1000) (given 0 (rowOf 7 1 1 [] []) ∷ given 0 (rowOf 7 1 2 [] []) ∷ given 0 (rowOf 7 1 3 [] []) ∷ []))
     ≡ done (record { log = (1, 3) ∷ (1, 2) ∷ (1, 1) ∷ []; held = [] })
 unfolding computing
 newest-first = refl
@@ -174,17 +175,17 @@ unfolding computing
 first-is-rejected = refl
 
 -- a held row that comes again has the fate of the outcome that it came with first
-held-is-kept : output (twice (emptyStore none) (limits 64 1000) (given 3 r21 ∷ []) (given 0 r21 ∷ given 0 r11 ∷ [])) ≡ lineOf 1 1 0 0 ++ lineOf 2 1 4 0
+held-is-kept : output (twice (limits 64 1000) (given 3 r21 ∷ []) (given 0 r21 ∷ given 0 r11 ∷ [])) ≡ lineOf 1 1 0 0 ++ lineOf 2 1 4 0
 unfolding computing
 held-is-kept = refl
 
 -- a row that comes again is a duplicate, held or logged
-held-again : counts (twice (emptyStore none) (limits 64 1000) (given 0 r21 ∷ []) (given 3 r21 ∷ []))
+held-again : counts (twice (limits 64 1000) (given 0 r21 ∷ []) (given 3 r21 ∷ []))
     ≡ done (record { applied = 0; stale = 0; rejected = 0; duplicates = 1; held = 1; expired = 0; dropped = 0 })
 unfolding computing
 held-again = refl
 
-logged-again : counts (twice (emptyStore none) (limits 64 1000) (given 0 r11 ∷ []) (given 3 r11 ∷ []))
+logged-again : counts (twice (limits 64 1000) (given 0 r11 ∷ []) (given 3 r11 ∷ []))
     ≡ done (record { applied = 0; stale = 0; rejected = 0; duplicates = 1; held = 0; expired = 0; dropped = 0 })
 unfolding computing
 logged-again = refl

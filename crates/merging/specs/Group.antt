@@ -17,7 +17,7 @@ use Rattle.codec.proofs.Laws.{varints}
 use Rattle.row.specs.Rows.{HeldRow}
 use Rattle.log.specs.Store.{none, Store}
 use Rattle.merging.specs.Merging.{Merged, merge}
-use Rattle.merging.specs.Examples.{rowOf, given, held, emptyStore, settings, told, passed, computing}
+use Rattle.merging.specs.Examples.{rowOf, given, held, emptyStore, settings, told, passed, r21, computing}
 
 -- author 1's clock at wall and counter; its drift is HybridClock::new's
 abbrev pub own : ℕ → ℕ → HybridClock
@@ -31,9 +31,9 @@ remote wall counter = record { «wall_time» = wall; «logical_counter» = count
 abbrev pub moved : ℕ → ℕ → Moved Unit
 moved wall counter = record { answer = done unit; clock = own wall counter }
 
--- a row that waits for 1:1, held since it arrived
+-- 2:1, which waits for 1:1, held since it arrived
 abbrev pub arrivedAt : ℕ → HeldRow
-arrivedAt time = held time (rowOf 3 2 1 ((1, 1) ∷ []) [])
+arrivedAt time = held time r21
 
 -- a store that holds it
 abbrev pub holding : ℕ → Store
