@@ -5,6 +5,7 @@ use mathlib.Core.Path.{_≡_, refl, _∙_, sym}
 use mathlib.Core.Logic.{inl, inr}
 use mathlib.Core.Bool.{Bool, true, false, not, _&&_, _||_}
 use mathlib.Core.List.{List, [], _∷_, _++_, List·Memᴰ, List·Memᴰ·head, List·Memᴰ·tail}
+use native.Mathlib.Omega.{arith}
 use lib.ListN.{replicate}
 use lib.Dec.{ltb, leb, eqb}
 use borrow.Author.Tests.{ltb-true, leb-true, eqb-true, eq-eqb}
@@ -179,9 +180,9 @@ spanning xs = all (λ x. all (λ y. all (λ z. leb (x .time) (y .time + z .age))
 spans-tested : (xs : List Accepted) → spanning xs ≡ true → Spans xs
 unfolding spanning
 spans-tested xs t x y z i j k =
-    leb-true _ _ (all-every (λ z. leb (x .time) (y .time + z .age)) xs
-    (all-every (λ y. all (λ z. leb (x .time) (y .time + z .age)) xs) xs
-    (all-every (λ x. all (λ y. all (λ z. leb (x .time) (y .time + z .age)) xs) xs) xs t x i) y j) z k)
+    let over = all-every (λ x. all (λ y. all (λ z. leb (x .time) (y .time + z .age)) xs) xs) xs t x i in
+    let from = all-every (λ y. all (λ z. leb (x .time) (y .time + z .age)) xs) xs over y j in
+    omega (arith, leb-true (x .time) (y .time + z .age) (all-every (λ z. leb (x .time) (y .time + z .age)) xs from z k))
 
 spans₁ : Spans (accepted blank calls₁)
 unfolding spanning all
