@@ -4,21 +4,23 @@ use std::path::{Path, PathBuf};
 use std::{env, fs, process};
 
 /// The files of the original that are used.
-const FILES: [&str; 11] = [
+const FILES: [&str; 13] = [
     "clock.rs",
     "codec.rs",
+    "engine.rs",
     "error.rs",
     "gc.rs",
     "log.rs",
     "merge.rs",
     "peer.rs",
     "sync.rs",
+    "transport.rs",
     "stubs/mod.rs",
     "stubs/crypto.rs",
     "stubs/lww.rs",
 ];
 /// Our own files, which stand next to them.
-const OWN: [&str; 2] = ["lib.rs", "open.rs"];
+const OWN: [&str; 3] = ["builder.rs", "lib.rs", "open.rs"];
 
 fn main() {
     println!("cargo::rustc-check-cfg=cfg(oracle_present)");
@@ -26,9 +28,18 @@ fn main() {
     println!("cargo::rerun-if-changed=assembled");
     println!("cargo::rerun-if-env-changed=TPT_REPLICATE_SRC");
     let manifest = PathBuf::from(var("CARGO_MANIFEST_DIR"));
-    let root = manifest.join("../..");
-    let source = source_folder(&root).join("src");
-    let present = watch(&source);
+    let (named, folder) = source_folder(&manifest.join("../.."));
+    let source = folder.join("src");
+    let missing = watch(&source);
+    // A folder that is named, or is there, has all of the original; nothing is compared with a part of it.
+    let present = named || source.is_dir();
+    if let (true, Some(file)) = (present, missing) {
+        eprintln!(
+            "{} is missing: TPT_REPLICATE_SRC names the folder of the original",
+            file.display()
+        );
+        process::exit(1);
+    }
     println!("cargo::metadata=present={}", u8::from(present));
     let target = PathBuf::from(var("OUT_DIR")).join("original");
     if !present {
@@ -45,23 +56,25 @@ fn main() {
     println!("cargo::rustc-cfg=oracle_present");
 }
 
-/// The folder that TPT_REPLICATE_SRC names, else the one beside the repository.
-fn source_folder(root: &Path) -> PathBuf {
+/// The folder that TPT_REPLICATE_SRC names, and whether it does; else the one beside the repository.
+fn source_folder(root: &Path) -> (bool, PathBuf) {
     match env::var_os("TPT_REPLICATE_SRC") {
-        Some(path) if !path.is_empty() => root.join(path),
-        _ => root.join("../shared/docs/src"),
+        Some(path) if !path.is_empty() => (true, root.join(path)),
+        _ => (false, root.join("../shared/docs/src")),
     }
 }
 
-/// Has cargo look at every file again when it changes, and says whether all are there.
-fn watch(source: &Path) -> bool {
-    let mut present = true;
+/// Has cargo look at every file again when it changes, and gives the first that is not there.
+fn watch(source: &Path) -> Option<PathBuf> {
+    let mut missing = None;
     for file in FILES {
         let path = source.join(file);
         println!("cargo::rerun-if-changed={}", path.display());
-        present &= path.is_file();
+        if !path.is_file() {
+            missing.get_or_insert(path);
+        }
     }
-    present
+    missing
 }
 
 fn copy(from: &Path, to: &Path) {

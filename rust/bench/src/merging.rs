@@ -35,10 +35,13 @@ const OFFERS: [Offer; 7] = [
         let rows = (0..64).map(earlier).collect();
         (log > 0).then_some((chain(log), rows, applied(64)))
     }),
-    ("64 fresh rows with stamps spread among the logged ones", |log| {
-        let rows = (0..64).map(|n| among(n, n * log as u64 / 64)).collect();
-        (log > 0).then_some((chain(log), rows, applied(64)))
-    }),
+    (
+        "64 fresh rows with stamps spread among the logged ones",
+        |log| {
+            let rows = (0..64).map(|n| among(n, n * log as u64 / 64)).collect();
+            (log > 0).then_some((chain(log), rows, applied(64)))
+        },
+    ),
     ("64 duplicates of logged rows", |log| {
         let rows = next(log.checked_sub(64)?, 64);
         let counts = Counts {

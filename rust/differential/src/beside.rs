@@ -137,11 +137,23 @@ impl Pair {
     /// The areas of a log, with some held rows and a floor.
     pub fn of(rng: &mut Rng, world: &World, original: ReplicatedLog) -> Self {
         let count = rng.pick(&[0, 0, 1, 3]);
+        let held = world.held(rng, count);
+        let floor = world.floor(rng);
+        Self::with(rng, original, held, floor)
+    }
+
+    /// The areas of a log, with these held rows and this floor.
+    pub fn with(
+        rng: &mut Rng,
+        original: ReplicatedLog,
+        held: Vec<Held>,
+        floor: Option<Stamp>,
+    ) -> Self {
         let mut pair = Self {
             areas: Areas::default(),
             wanted: worlds::areas(rng, original.len()),
-            held: world.held(rng, count),
-            floor: world.floor(rng),
+            held,
+            floor,
             original,
         };
         let content = pair.content();

@@ -4,8 +4,8 @@ use cuwelfra::Limits;
 use cuwelfra_sys::{self as sys, Told};
 
 use crate::area::word;
-use crate::batches::{BatchRow, LINE};
-use crate::lending::call;
+use crate::batches::{Answer, BatchRow, LINE};
+use crate::lending::{call, Answered};
 use crate::lists::Offer;
 use crate::model::Lent;
 use crate::rows::{Held, Row, Stamp};
@@ -95,14 +95,24 @@ impl Desk {
         self.call(&lent)
     }
 
-    /// The same for bytes. A refusal must leave the store.
-    pub fn call(&mut self, lent: &Lent) -> String {
+    /// The call's answer. A refusal must leave the store and count nothing.
+    pub fn answer(&mut self, lent: &Lent) -> Answered {
         let before = self.areas.clone();
         let answer = call(&mut self.areas, lent);
-        let told = answer.told;
         assert!(is_zero(&answer.scratch), "scratch");
-        if told.told != Told::default() {
+        if answer.told.told != Told::default() {
             assert!(self.areas == before, "a refusal changed the store");
+            let refused = Answer::refused(answer.told.told);
+            assert_eq!(answer.told, refused.told, "a refusal counted rows");
+        }
+        answer
+    }
+
+    /// The answer in words.
+    pub fn call(&mut self, lent: &Lent) -> String {
+        let answer = self.answer(lent);
+        let told = answer.told;
+        if told.told != Told::default() {
             return refusal(told.told);
         }
         let logged = told.applied + told.stale + told.rejected;

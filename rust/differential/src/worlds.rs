@@ -5,7 +5,7 @@ use std::collections::{BTreeMap, BTreeSet};
 use crate::area::AUTHORS;
 use crate::rng::Rng;
 use crate::rows::{Held, Row, Stamp, DEPS, PAYLOAD, SIGNATURE, SLOT};
-use crate::store::{observe, Areas, Content, Entries};
+use crate::store::{observe, Areas, Content, Entries, LOGGED};
 
 pub struct World {
     pub authors: Vec<u64>,
@@ -240,9 +240,10 @@ fn boundary(rng: &mut Rng) -> u64 {
     rng.edge()
 }
 
-/// Areas for a store: a few slots more or none, and some bytes behind.
+/// Areas for a store: a few slots more or none, and some bytes behind. Slots past 1,024 are none of the log's.
 pub fn areas(rng: &mut Rng, logged: usize) -> Areas {
-    let spare = rng.pick(&[0, 1, 2, 5]);
+    let slots = (logged + rng.pick(&[0, 1, 2, 5])).max(1);
     let behind = rng.pick(&[0, 0, 1, 8, SLOT - 1]);
-    Areas::new((logged + spare).max(1), behind)
+    let beyond = slots.saturating_sub(LOGGED);
+    Areas::new(slots - beyond, beyond * SLOT + behind)
 }

@@ -8,7 +8,7 @@ use crate::beside::{clock_area, entries, log_of, vector, Pair};
 use crate::rng::Rng;
 use crate::store::Entries;
 use crate::suites::listed::listed;
-use crate::support::{agree, Check, Outcome};
+use crate::support::{agree, Outcome};
 use crate::worlds::{large_row, World};
 
 const CHUNKINGS: u64 = 200_000;
@@ -54,7 +54,8 @@ fn size(op: &StampedOperation) -> usize {
     op.signing_bytes().len() + op.signature.len() + 16
 }
 
-fn chunks(rng: &mut Rng, pair: &mut Pair, peer: &Entries) -> Check {
+/// Compares the chunks of a delta, and gives how many there are.
+pub fn chunks(rng: &mut Rng, pair: &mut Pair, peer: &Entries) -> Result<usize, String> {
     let delta = sync::calculate_delta(&pair.original, &vector(peer));
     let most = rng.pick(&[0, 1, 2, 3, 5, 100, u64::MAX - 1, u64::MAX, u64::MAX]);
     let bytes = byte_limit(rng, &delta);
@@ -73,12 +74,13 @@ fn chunks(rng: &mut Rng, pair: &mut Pair, peer: &Entries) -> Check {
             let delta = store.delta(&clock)?;
             delta.chunk_lens(most, bytes)
         });
-        let wanted = wanted.iter().map(|rows| *rows as usize).collect();
-        agree(&answer, &Ok(wanted), || inputs(pair))?;
+        let lens = wanted.iter().map(|rows| *rows as usize).collect();
+        agree(&answer, &Ok(lens), || inputs(pair))?;
     } else {
         listed(rng, pair, &wanted, inputs, |store, output| {
             sys::chunk_ops(store, &area, most, bytes, output)
         })?;
     }
-    pair.same(|| inputs(pair))
+    pair.same(|| inputs(pair))?;
+    Ok(wanted.len())
 }

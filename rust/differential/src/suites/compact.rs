@@ -2,7 +2,7 @@
 
 use cuwelfra_sys::{self as sys, Told};
 
-use crate::area::BYTES;
+use crate::area::{Area, BYTES};
 use crate::beside::{clock_area, log_of, timestamp, told_number, wrapped_stamp, Pair};
 use crate::rng::Rng;
 use crate::rows::Stamp;
@@ -55,10 +55,11 @@ fn small(rng: &mut Rng) -> Outcome {
     Ok(cases)
 }
 
-fn compacted(rng: &mut Rng, pair: &mut Pair, cutoff: Stamp) -> Check {
+/// Compares a compaction, and gives how many rows it removes.
+pub fn compacted(rng: &mut Rng, pair: &mut Pair, cutoff: Stamp) -> Result<usize, String> {
     let inputs = |pair: &Pair| format!("compact to {cutoff:?}, the log {}", pair.shown());
     let mut after = pair.original.clone();
-    let removed = after.compact(&timestamp(cutoff)) as u64;
+    let removed = after.compact(&timestamp(cutoff));
     let answer = if rng.once_in(4) {
         let answer = pair.wrapped(|store| store.compact(&wrapped_stamp(cutoff)));
         told_number(answer.map_err(|r| format!("{}\n  {r}", inputs(pair)))? as u64)
@@ -66,27 +67,36 @@ fn compacted(rng: &mut Rng, pair: &mut Pair, cutoff: Stamp) -> Check {
         let areas = &mut pair.areas;
         sys::compact(&mut areas.log, &areas.held, &mut areas.head, cutoff)
     };
-    agree(&answer, &told_number(removed), || inputs(pair))?;
+    agree(&answer, &told_number(removed as u64), || inputs(pair))?;
     pair.now(after);
-    pair.same(|| inputs(pair))
+    pair.same(|| inputs(pair))?;
+    Ok(removed)
 }
 
-/// The clock that the port derives, into an area that is exact, longer or short.
-fn derived(rng: &mut Rng, pair: &mut Pair) -> Check {
-    let wanted = clock_area(&pair.original.derive_clock());
+/// Compares the derived clock, and gives how many authors it has.
+pub fn derived(rng: &mut Rng, pair: &mut Pair) -> Result<usize, String> {
+    let clock = pair.original.derive_clock();
+    let wanted = clock_area(&clock);
     if rng.once_in(4) {
         let answer = pair.wrapped(|store| store.derive_clock());
         let answer = answer.map(|clock| *clock.area());
-        return agree(&answer, &Ok(wanted), || {
+        agree(&answer, &Ok(wanted), || {
             format!("derive_clock of {}", pair.shown())
-        });
+        })?;
+    } else {
+        derived_into(rng, pair, &wanted)?;
     }
+    Ok(clock.peers.len())
+}
+
+/// Into an area that is exact, longer or short.
+fn derived_into(rng: &mut Rng, pair: &Pair, wanted: &Area) -> Check {
     let room = rng.pick(&[BYTES, BYTES, BYTES + 1, BYTES + 70, BYTES - 1, 0]);
     let mut area = pattern(room);
     let mut after = area.clone();
     let mut told = refused(2);
     if room >= BYTES {
-        after[..BYTES].copy_from_slice(&wanted);
+        after[..BYTES].copy_from_slice(wanted);
         told = Told::default();
     }
     let inputs = || format!("derive_clock into {room} bytes of {}", pair.shown());

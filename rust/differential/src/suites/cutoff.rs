@@ -8,7 +8,7 @@ use crate::beside::{entries, Pair};
 use crate::rng::Rng;
 use crate::store::Entries;
 use crate::suites::from_parts::{small_clocks, small_lists};
-use crate::support::{agree, Check, Outcome};
+use crate::support::{agree, Outcome};
 use crate::worlds::World;
 
 const QUESTIONS: u64 = 200_000;
@@ -51,7 +51,8 @@ fn small(rng: &mut Rng) -> Outcome {
     Ok(cases)
 }
 
-fn asked(rng: &mut Rng, pair: &mut Pair, frontier: &Entries) -> Check {
+/// Compares a cutoff, and gives how many rows are at or below it.
+pub fn asked(rng: &mut Rng, pair: &mut Pair, frontier: &Entries) -> Result<usize, String> {
     let clock = vector(frontier);
     let wanted = gc::cutoff(&pair.original, &clock);
     let area = clock_area(&clock);
@@ -60,13 +61,17 @@ fn asked(rng: &mut Rng, pair: &mut Pair, frontier: &Entries) -> Check {
         let frontier = cuwelfra::VectorClock::from_area(area);
         let answer = pair.wrapped(|store| store.cutoff(&frontier));
         let wanted = wanted.map(|cut| wrapped_stamp(stamp(&cut)));
-        return agree(&answer, &Ok(wanted), || shown(pair));
+        agree(&answer, &Ok(wanted), || shown(pair))?;
+    } else {
+        let answer = sys::cutoff(pair.areas.lent(), &area);
+        agree(&answer, &told_stamp(wanted.as_ref()), || shown(pair))?;
     }
-    let answer = sys::cutoff(pair.areas.lent(), &area);
-    agree(&answer, &told_stamp(wanted.as_ref()), || shown(pair))
+    let ops = pair.original.ops();
+    Ok(wanted.map_or(0, |cut| ops.partition_point(|op| op.timestamp <= cut)))
 }
 
-fn served(rng: &mut Rng, pair: &mut Pair, peer: &Entries) -> Check {
+/// Compares whether the log can serve a peer, and gives 1 or 0.
+pub fn served(rng: &mut Rng, pair: &mut Pair, peer: &Entries) -> Result<usize, String> {
     let clock = vector(peer);
     let wanted = pair.original.can_serve(&clock);
     let area = clock_area(&clock);
@@ -74,8 +79,10 @@ fn served(rng: &mut Rng, pair: &mut Pair, peer: &Entries) -> Check {
     if rng.once_in(4) {
         let peer = cuwelfra::VectorClock::from_area(area);
         let answer = pair.wrapped(|store| store.can_serve(&peer));
-        return agree(&answer, &Ok(wanted), || shown(pair));
+        agree(&answer, &Ok(wanted), || shown(pair))?;
+    } else {
+        let answer = sys::can_serve(pair.areas.lent(), &area);
+        agree(&answer, &told_number(u64::from(wanted)), || shown(pair))?;
     }
-    let answer = sys::can_serve(pair.areas.lent(), &area);
-    agree(&answer, &told_number(u64::from(wanted)), || shown(pair))
+    Ok(usize::from(wanted))
 }

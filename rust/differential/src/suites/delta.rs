@@ -7,7 +7,7 @@ use crate::beside::{clock_area, entries, row, vector, Pair};
 use crate::rng::Rng;
 use crate::store::Entries;
 use crate::suites::listed::listed;
-use crate::support::{agree, Check, Outcome};
+use crate::support::{agree, Outcome};
 use crate::worlds::World;
 
 const DELTAS: u64 = 200_000;
@@ -43,7 +43,8 @@ fn positions(pair: &Pair, peer: &Entries) -> Vec<u64> {
     positions
 }
 
-fn delta(rng: &mut Rng, pair: &mut Pair, peer: &Entries) -> Check {
+/// Compares a delta, and gives how many rows it has.
+pub fn delta(rng: &mut Rng, pair: &mut Pair, peer: &Entries) -> Result<usize, String> {
     let wanted = positions(pair, peer);
     let area = clock_area(&vector(peer));
     let inputs = |pair: &Pair| format!("calculate_delta for {peer:?} of {}", pair.shown());
@@ -53,12 +54,13 @@ fn delta(rng: &mut Rng, pair: &mut Pair, peer: &Entries) -> Check {
             let delta = store.delta(&clock);
             delta.map(|delta| delta.positions().to_vec())
         });
-        let wanted = wanted.iter().map(|i| *i as usize).collect();
-        agree(&answer, &Ok(wanted), || inputs(pair))?;
+        let positions = wanted.iter().map(|i| *i as usize).collect();
+        agree(&answer, &Ok(positions), || inputs(pair))?;
     } else {
         listed(rng, pair, &wanted, inputs, |store, output| {
             sys::calculate_delta(store, &area, output)
         })?;
     }
-    pair.same(|| inputs(pair))
+    pair.same(|| inputs(pair))?;
+    Ok(wanted.len())
 }

@@ -6,7 +6,7 @@ use cuwelfra_sys::{self as sys, LookupTold, Told};
 use crate::beside::Pair;
 use crate::rng::Rng;
 use crate::rows::SLOT;
-use crate::support::{agree, Check, Outcome};
+use crate::support::{agree, Outcome};
 use crate::worlds::World;
 
 const LOOKUPS: u64 = 200_000;
@@ -37,7 +37,7 @@ pub fn run(rng: &mut Rng) -> Outcome {
 }
 
 /// The author and sequence of a logged or held row, or any.
-fn wanted_id(rng: &mut Rng, world: &World, pair: &Pair) -> (u64, u64) {
+pub fn wanted_id(rng: &mut Rng, world: &World, pair: &Pair) -> (u64, u64) {
     let ops = pair.original.ops();
     match rng.below(3) {
         0 if !ops.is_empty() => {
@@ -68,8 +68,14 @@ fn search(pair: &Pair, author: u64, seq: u64) -> Option<(u64, usize, Vec<u8>)> {
     Some((2, i, held[i].row.payload.clone()))
 }
 
-fn lookup(rng: &mut Rng, pair: &mut Pair, author: u64, seq: u64) -> Check {
+/// Compares a lookup, and gives how many rows it goes through up to the one that it finds, 0 for none.
+pub fn lookup(rng: &mut Rng, pair: &mut Pair, author: u64, seq: u64) -> Result<usize, String> {
     let found = search(pair, author, seq);
+    let logged = pair.original.len();
+    let passed = found.as_ref().map_or(0, |(place, i, _)| match place {
+        1 => i + 1,
+        _ => logged + i + 1,
+    });
     let inputs = |pair: &Pair| {
         let held = pair.held.iter().map(|h| (h.row.author, h.row.seq));
         let held: Vec<_> = held.collect();
@@ -87,7 +93,8 @@ fn lookup(rng: &mut Rng, pair: &mut Pair, author: u64, seq: u64) -> Check {
             1 => (Place::Logged(i), payload),
             _ => (Place::Held(i), payload),
         });
-        return agree(&answer, &Ok(wanted), || inputs(pair));
+        agree(&answer, &Ok(wanted), || inputs(pair))?;
+        return Ok(passed);
     }
     let told = sys::lookup(pair.areas.lent(), author, seq);
     let wanted = found.as_ref().map(|(place, i, payload)| LookupTold {
@@ -98,7 +105,7 @@ fn lookup(rng: &mut Rng, pair: &mut Pair, author: u64, seq: u64) -> Check {
     });
     agree(&told, &wanted.unwrap_or_default(), || inputs(pair))?;
     let Some((place, _, payload)) = found else {
-        return Ok(());
+        return Ok(0);
     };
     let area = if place == 1 {
         &pair.areas.log
@@ -106,5 +113,6 @@ fn lookup(rng: &mut Rng, pair: &mut Pair, author: u64, seq: u64) -> Check {
         &pair.areas.held
     };
     let part = &area[told.slot as usize * SLOT + 384..][..told.len as usize];
-    agree(&part, &&payload[..], || inputs(pair))
+    agree(&part, &&payload[..], || inputs(pair))?;
+    Ok(passed)
 }

@@ -21,6 +21,8 @@ mod envelope;
 #[cfg(oracle_present)]
 mod from_parts;
 #[cfg(oracle_present)]
+mod full_size;
+#[cfg(oracle_present)]
 mod hybrid;
 #[cfg(oracle_present)]
 mod listed;
@@ -130,6 +132,7 @@ pub const SUITES: &[Suite] = &[
     beside_original!("lookup", lookup::run),
     beside_original!("peers", peers::run),
     beside_original!("peer-pending", peer_pending::run),
+    beside_original!("full-size", full_size::run),
     alone!("damaged-stores", damaged_stores::run),
     alone!("merge-cases", merge_cases::run),
     alone!("batch-bytes", batch_bytes::run),

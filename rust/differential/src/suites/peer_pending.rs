@@ -7,8 +7,9 @@ use oracle::stubs::ActorId;
 use crate::area::set_word;
 use crate::beside::{entries, told_number, vector, Pair};
 use crate::rng::Rng;
+use crate::store::Entries;
 use crate::suites::peers::{encode, ANSWERED, OUTSTANDING, PEER};
-use crate::support::{agree, refused, Check, Outcome};
+use crate::support::{agree, refused, Outcome};
 use crate::worlds::World;
 
 const QUESTIONS: u64 = 200_000;
@@ -20,7 +21,9 @@ pub fn run(rng: &mut Rng) -> Outcome {
         let logged = rng.below(14);
         let mut pair = Pair::new(rng, &world, logged);
         for _ in 0..6 {
-            pending_ops(rng, &world, &mut pair)?;
+            let clock = entries(pair.original.clock());
+            let peer = world.near_clock(rng, &clock);
+            pending_ops(rng, &mut pair, &peer)?;
             questions += 1;
         }
         pair.same(|| format!("pending_ops of {}", pair.shown()))?;
@@ -28,22 +31,20 @@ pub fn run(rng: &mut Rng) -> Outcome {
     Ok(questions)
 }
 
-/// How many logged rows the peer lacks; refused where its area is short or breaks a rule.
-fn pending_ops(rng: &mut Rng, world: &World, pair: &mut Pair) -> Check {
+/// Compares how many logged rows a peer with this clock lacks, and gives that; refused where its area is short or breaks
+/// a rule.
+pub fn pending_ops(rng: &mut Rng, pair: &mut Pair, clock: &Entries) -> Result<usize, String> {
     let mut peer = Peer::new(ActorId(rng.edge()));
-    let clock = entries(pair.original.clock());
-    peer.remote_clock = vector(&world.near_clock(rng, &clock));
+    peer.remote_clock = vector(clock);
     let mut area = encode(&peer, &[0; PEER]);
-    let count = peer.pending_ops(&pair.original) as u64;
-    let mut wanted = told_number(count);
-    let inputs = |pair: &Pair| {
-        let clock = entries(&peer.remote_clock);
-        format!("pending_ops of {clock:?} in {}", pair.shown())
-    };
+    let count = peer.pending_ops(&pair.original);
+    let mut wanted = told_number(count as u64);
+    let inputs = |pair: &Pair| format!("pending_ops of {clock:?} in {}", pair.shown());
     if rng.once_in(4) {
         let peer = cuwelfra::Peer::from_area(area);
         let answer = pair.wrapped(|store| peer.pending_ops(store));
-        return agree(&answer, &Ok(count as usize), || inputs(pair));
+        agree(&answer, &Ok(count), || inputs(pair))?;
+        return Ok(count);
     }
     let mut len = PEER;
     if rng.once_in(8) {
@@ -60,5 +61,6 @@ fn pending_ops(rng: &mut Rng, world: &World, pair: &mut Pair) -> Check {
         };
     }
     let answer = sys::peer_pending_ops(&area[..len], pair.areas.lent());
-    agree(&answer, &wanted, || inputs(pair))
+    agree(&answer, &wanted, || inputs(pair))?;
+    Ok(count)
 }
