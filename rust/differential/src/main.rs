@@ -16,6 +16,8 @@ mod damage;
 mod demand;
 mod desk;
 #[cfg(oracle_present)]
+mod faults;
+#[cfg(oracle_present)]
 mod full;
 #[cfg(oracle_present)]
 mod fuzz;

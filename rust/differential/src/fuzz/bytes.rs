@@ -156,7 +156,7 @@ impl RowBytes {
 
 impl Input for RowBytes {
     fn check(&self) -> Check {
-        same_row(&mut Rng::for_suite(self.seed, "row"), &self.bytes)
+        same_row(&mut Rng::for_suite(self.seed, "row"), &self.bytes).map(|_| ())
     }
 
     fn smaller(&self) -> Box<dyn Iterator<Item = Self> + '_> {

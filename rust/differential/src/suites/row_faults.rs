@@ -1,4 +1,7 @@
-//! Batch rows with faults, read by the first of them, in overlong varints too; and slots that break a rule.
+//! Batch rows with faults, read by the first of them, in overlong varints too, and how the original reads them; and
+//! slots that break a rule.
+
+use std::collections::BTreeMap;
 
 use cuwelfra::Slot as WrappedSlot;
 use cuwelfra_sys::{self as sys, Told, Written};
@@ -6,11 +9,12 @@ use oracle::open::Reader;
 
 use crate::area::{set_word, word};
 use crate::beside::row as row_of;
+use crate::faults::{judged, Fault, Kind};
 use crate::original;
 use crate::rng::Rng;
-use crate::rows::{self, outcome_fits, Held, Row, Slot, SLOT};
+use crate::rows::{self, Held, Row, Slot, SLOT};
 use crate::suites::row_bytes::{same_read, signed};
-use crate::support::{agree, pattern, refused, Check, Outcome};
+use crate::support::{agree, note, pattern, refused, Check, Outcome};
 use crate::worlds::large_row;
 
 const FAULTS: u64 = 300_000;
@@ -18,14 +22,92 @@ const SLOTS: u64 = 200_000;
 
 pub fn run(rng: &mut Rng) -> Outcome {
     zero_dependency(rng)?;
+    let cases = small(rng)?;
+    let mut kinds = BTreeMap::new();
     for _ in 0..FAULTS {
         let batch = faulty(rng);
-        same_row(rng, &batch)?;
+        *kinds.entry(same_row(rng, &batch)?).or_insert(0) += 1;
     }
+    listed(&kinds)?;
     for _ in 0..SLOTS {
         damaged_slot(rng)?;
     }
-    Ok(1 + FAULTS + SLOTS)
+    Ok(1 + cases + FAULTS + SLOTS)
+}
+
+/// Prints how often each pair of answers came up. Requires that no pair of `PAIRS` lacks.
+fn listed(kinds: &BTreeMap<Kind, u64>) -> Check {
+    let counts = kinds.iter().map(|(kind, count)| format!("{kind} {count}"));
+    note(&format!(
+        "row-faults: {}",
+        counts.collect::<Vec<_>>().join("; ")
+    ));
+    let met = |here, there| {
+        kinds
+            .keys()
+            .any(|kind| (kind.here, kind.there) == (here, there))
+    };
+    for (here, theirs) in PAIRS {
+        if let Some(there) = theirs.iter().find(|there| !met(here, **there)) {
+            return Err(format!("  {here:?} here, {there:?} there never came up"));
+        }
+    }
+    let dropped = kinds.keys().any(|kind| kind.dropped);
+    agree(&dropped, &true, || "no dependency of number 0".to_owned())
+}
+
+/// Which answers of the original come beside each of ours; where a row is read by one alone, the reading goes on, and
+/// may end in any way.
+const PAIRS: [(Option<Fault>, &[Option<&str>]); 7] = [
+    (None, &[None]),
+    (Some(Fault::CutShort), &[None, Some("Truncated")]),
+    (Some(Fault::TooWide), &[Some("VarintOverflow")]),
+    (Some(Fault::AboveRest), &[Some("TooLarge")]),
+    (Some(Fault::NotRising), &ANY),
+    (Some(Fault::Closing), &[None]),
+    (Some(Fault::OverCapacity), &ANY),
+];
+const ANY: [Option<&str>; 4] = [
+    None,
+    Some("Truncated"),
+    Some("VarintOverflow"),
+    Some("TooLarge"),
+];
+
+/// The start of a small row: wall time 0, counter 0, stamp author, author and sequence 1.
+const HEAD: [u8; 5] = [0, 0, 1, 1, 1];
+/// No payload, no signature, and what closes a row.
+const CLOSING: [u8; 5] = [0, 0, 1, 0, 0];
+
+/// Small rows whose answers differ in kind, as docs/DIFFERENCES.md has them: the number here, 0 for none, and the
+/// original's answer.
+fn small(rng: &mut Rng) -> Outcome {
+    let causes: Vec<u8> = (1..=17).flat_map(|author| [author, 1]).collect();
+    let rows: [(Vec<u8>, u64, &str); 10] = [
+        ([&HEAD[..], &[1, 1, 0], &CLOSING].concat(), 0, "read"),
+        ([&HEAD[..], &[2, 2, 1, 1, 1], &CLOSING].concat(), 3, "read"),
+        ([&HEAD[..], &[2, 2, 1, 1, 1]].concat(), 3, "Truncated"),
+        ([&HEAD[..], &[5]].concat(), 3, "TooLarge"),
+        ([&HEAD[..], &[0, 5]].concat(), 3, "TooLarge"),
+        ([&HEAD[..], &[0, 0, 0, 2, 0, 0]].concat(), 3, "read"),
+        ([&HEAD[..], &[17], &causes, &CLOSING].concat(), 4, "read"),
+        ([&HEAD[..], &[17], &causes[..20]].concat(), 4, "Truncated"),
+        (
+            [&HEAD[..], &[0, 0, 65], &[1; 65], &[1, 0, 0]].concat(),
+            4,
+            "read",
+        ),
+        ([&HEAD[..], &[0, 0x81, 0x80, 0x40]].concat(), 4, "TooLarge"),
+    ];
+    for (bytes, number, original) in &rows {
+        let kind = same_row(rng, bytes)?;
+        let answers = (
+            kind.here.map_or(0, Fault::number),
+            kind.there.unwrap_or("read"),
+        );
+        agree(&answers, &(*number, *original), || format!("{bytes:02x?}"))?;
+    }
+    Ok(rows.len() as u64)
 }
 
 /// A row that depends on {1: 0}: both write it alike; the original reads it back without, the port with.
@@ -116,22 +198,18 @@ pub fn faulty(rng: &mut Rng) -> Vec<u8> {
     batch
 }
 
-/// Requires that the bytes are read as document 01 says, or refused.
-pub fn same_row(rng: &mut Rng, batch: &[u8]) -> Check {
-    let read = read_row(batch, 0);
-    let wanted = read
-        .as_ref()
-        .map(|(held, verdict, next)| (held, *verdict, *next));
-    same_read(rng, batch, 0, wanted.map_err(|number| *number))?;
-    if let Ok((held, ..)) = read {
-        // What the port takes, the original reads the same, but that it drops dependencies with number 0.
-        let mut row = held.row;
-        row.deps.retain(|(_, number)| *number > 0);
-        let op = Reader::new(batch).signed_op().map(|op| row_of(&op));
-        let op = op.map_err(|error| format!("{error:?}"));
-        agree(&Ok(row), &op, || format!("{batch:02x?}"))?;
-    }
-    Ok(())
+/// Requires that the bytes are read or refused here as document 01 says, and there as the original's rules are. Gives
+/// both answers' kinds.
+pub fn same_row(rng: &mut Rng, batch: &[u8]) -> Result<Kind, String> {
+    let judged = judged(batch);
+    let wanted = judged.here.as_ref();
+    let wanted = wanted.map(|(held, verdict, next)| (held, *verdict, *next));
+    same_read(rng, batch, 0, wanted.map_err(|fault| fault.number()))?;
+    let there = Reader::new(batch).signed_op().map(|op| row_of(&op));
+    agree(&there, &judged.there, || {
+        format!("the original on {batch:02x?}")
+    })?;
+    Ok(judged.kind())
 }
 
 /// A size around its limit, around `len`, or any.
@@ -169,58 +247,6 @@ fn varint(rng: &mut Rng, batch: &mut Vec<u8>, number: u64) {
             batch.push(0);
         }
     }
-}
-
-/// Reads a batch row as document 01 says, with the original's varints.
-fn read_row(batch: &[u8], at: usize) -> Result<(Held, u64, usize), u64> {
-    let mut reader = Reader::new(&batch[at..]);
-    let mut number = || reader.varint().map_err(|_| 3u64);
-    let wall = number()?;
-    let counter = u32::try_from(number()?).map_err(|_| 3u64)?;
-    let stamp = (wall, counter, number()?);
-    let (author, seq) = (number()?, number()?);
-    let count = within(number()?, 16)?;
-    let mut deps: Vec<(u64, u64)> = Vec::new();
-    for _ in 0..count {
-        let pair = (number()?, number()?);
-        if deps.last().is_some_and(|last| last.0 >= pair.0) {
-            return Err(3);
-        }
-        deps.push(pair);
-    }
-    let payload = part(&mut reader, 256)?;
-    let signature = part(&mut reader, 64)?;
-    let mut closing = || reader.u8().map(u64::from).map_err(|_| 3u64);
-    let (verdict, outcome, detail) = (closing()?, closing()?, closing()?);
-    if verdict > 1 || !outcome_fits(outcome, detail) {
-        return Err(3);
-    }
-    let held = Held {
-        row: Row {
-            stamp,
-            author,
-            seq,
-            deps,
-            payload,
-            signature,
-        },
-        arrival: 0,
-        outcome,
-        detail,
-    };
-    Ok((held, verdict, batch.len() - reader.remaining()))
-}
-
-fn within(size: u64, limit: u64) -> Result<usize, u64> {
-    if size > limit {
-        return Err(4);
-    }
-    Ok(size as usize)
-}
-
-fn part(reader: &mut Reader, limit: u64) -> Result<Vec<u8>, u64> {
-    let len = within(reader.varint().map_err(|_| 3u64)?, limit)?;
-    (0..len).map(|_| reader.u8().map_err(|_| 3)).collect()
 }
 
 /// A slot with one change is written where it still reads, else refused with 1.
