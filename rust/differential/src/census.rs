@@ -1,7 +1,5 @@
 //! How often calls were accepted, refused with each number, and moved rows in each way.
 
-use std::ops::RangeInclusive;
-
 use cuwelfra_sys::MergeTold;
 
 use crate::support::{note, Outcome};
@@ -53,7 +51,12 @@ impl Census {
     }
 
     /// Prints the counts. Requires that calls were accepted, and that each of these refusals and moves occurred.
-    pub fn finish(&self, suite: &str, refusals: RangeInclusive<usize>, moves: &[&str]) -> Outcome {
+    pub fn finish(
+        &self,
+        suite: &str,
+        refusals: impl IntoIterator<Item = usize>,
+        moves: &[&str],
+    ) -> Outcome {
         let refused = self.refused.iter().enumerate().skip(1);
         let refused: Vec<String> = refused.map(|(i, n)| format!("{i}: {n}")).collect();
         let moved = MOVES.iter().zip(self.moved);
@@ -68,7 +71,9 @@ impl Census {
             refused.join(", ")
         ));
         let lacking = moved.filter(|(name, n)| *n == 0 && moves.contains(name));
-        if self.accepted == 0 || self.refused[refusals].contains(&0) || lacking.count() > 0 {
+        let mut refusals = refusals.into_iter();
+        let unprovoked = refusals.any(|number| self.refused[number] == 0);
+        if self.accepted == 0 || unprovoked || lacking.count() > 0 {
             return Err("a refusal or a move never occurred".into());
         }
         Ok(self.calls())

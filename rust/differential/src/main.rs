@@ -37,6 +37,8 @@ mod pending;
 mod reading;
 #[cfg(oracle_present)]
 mod record;
+#[cfg(oracle_present)]
+mod replica;
 mod rng;
 mod rows;
 mod runner;

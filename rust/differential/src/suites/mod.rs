@@ -40,6 +40,8 @@ mod peers;
 mod readers;
 mod refusals;
 #[cfg(oracle_present)]
+mod replica;
+#[cfg(oracle_present)]
 pub mod row_bytes;
 #[cfg(oracle_present)]
 pub mod row_faults;
@@ -138,5 +140,6 @@ pub const SUITES: &[Suite] = &[
     alone!("batch-bytes", batch_bytes::run),
     alone!("odd-stores", odd_stores::run),
     beside_original!("call-lists", call_lists::run),
+    beside_original!("replica", replica::run),
     alone!("convergence", convergence::run),
 ];
