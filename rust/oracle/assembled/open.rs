@@ -1,4 +1,4 @@
-//! Opens the original's `Reader` and `Writer`, which are visible in its own crate only.
+//! Opens the original's `Reader` and `Writer`, which are visible in its own crate only, and the text of its files.
 
 use alloc::vec::Vec;
 
@@ -86,3 +86,16 @@ impl Writer {
         self.0.finish()
     }
 }
+
+/// The texts of the ported files.
+pub const PORTED: [(&str, &str); 9] = [
+    ("src/stubs/mod.rs", include_str!("stubs/mod.rs")),
+    ("src/error.rs", include_str!("error.rs")),
+    ("src/codec.rs", include_str!("codec.rs")),
+    ("src/clock.rs", include_str!("clock.rs")),
+    ("src/log.rs", include_str!("log.rs")),
+    ("src/gc.rs", include_str!("gc.rs")),
+    ("src/sync.rs", include_str!("sync.rs")),
+    ("src/peer.rs", include_str!("peer.rs")),
+    ("src/merge.rs", include_str!("merge.rs")),
+];

@@ -17,6 +17,8 @@ pub mod damaged_stores;
 #[cfg(oracle_present)]
 mod delta;
 #[cfg(oracle_present)]
+mod differences;
+#[cfg(oracle_present)]
 mod envelope;
 #[cfg(oracle_present)]
 mod from_parts;
@@ -141,5 +143,6 @@ pub const SUITES: &[Suite] = &[
     alone!("odd-stores", odd_stores::run),
     beside_original!("call-lists", call_lists::run),
     beside_original!("replica", replica::run),
+    beside_original!("differences", differences::run),
     alone!("convergence", convergence::run),
 ];
