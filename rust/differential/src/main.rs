@@ -70,13 +70,16 @@ fn main() -> ExitCode {
     }
     if !oracle::PRESENT {
         println!(
-            "The Rust original is absent: neither TPT_REPLICATE_SRC nor ../shared/docs/src beside \
-             the repository has it. Suites that need it are skipped."
+            "The Rust original is absent: TPT_REPLICATE_SRC names no folder, and there is no \
+             ../shared/docs/src beside the repository. Suites that need it are skipped."
         );
     }
     let suites = SUITES.iter().filter(|suite| chosen(suite, &names));
     match runner::run(suites.collect(), rng::seed()) {
-        Some(passed) => {
+        Some((passed, skipped)) => {
+            if skipped > 0 {
+                println!("differential: {skipped} suites skipped, they need the Rust original");
+            }
             println!("differential: {passed} suites passed");
             ExitCode::SUCCESS
         }

@@ -21,8 +21,8 @@ struct Ran {
 /// Places in the list that no thread has taken, the next one last.
 type Queue = Arc<Mutex<Vec<usize>>>;
 
-/// How many suites passed, `None` at the first that did not.
-pub fn run(suites: Vec<&'static Suite>, seed: u64) -> Option<usize> {
+/// How many suites passed and were skipped, `None` at the first that failed.
+pub fn run(suites: Vec<&'static Suite>, seed: u64) -> Option<(usize, usize)> {
     let count = suites.len();
     let queue = Arc::new(Mutex::new(longest_last(&suites)));
     let suites = Arc::new(suites);
@@ -77,7 +77,7 @@ fn run_one(suite: &Suite, seed: u64) -> (String, Option<bool>) {
 }
 
 /// Prints each suite's text once those listed before it are printed; a failure at once.
-fn print_in_order(count: usize, receiver: &Receiver<Ran>) -> Option<usize> {
+fn print_in_order(count: usize, receiver: &Receiver<Ran>) -> Option<(usize, usize)> {
     let mut waiting: Vec<Option<Ran>> = (0..count).map(|_| None).collect();
     let mut printed = 0;
     let mut passed = 0;
@@ -95,5 +95,5 @@ fn print_in_order(count: usize, receiver: &Receiver<Ran>) -> Option<usize> {
             printed += 1;
         }
     }
-    Some(passed)
+    Some((passed, count - passed))
 }
