@@ -2,6 +2,7 @@
 
 use cuwelfra::{ActorId, Row, Timestamp};
 use oracle::log::StampedOperation;
+use oracle::open;
 
 /// Authors that take turns.
 const AUTHORS: u64 = 8;
@@ -54,24 +55,16 @@ fn row(author: u64, seq: u64, wall_time: u64) -> Row {
 
 /// The original's form.
 pub fn operation(row: &Row) -> StampedOperation {
-    let actor = |actor: ActorId| oracle::stubs::ActorId(actor.0);
-    let deps = row.deps.iter().map(|(author, seq)| (actor(*author), *seq));
-    StampedOperation {
-        timestamp: oracle::clock::Timestamp {
-            wall_time: row.timestamp.wall_time,
-            logical_counter: row.timestamp.logical_counter,
-            actor_id: actor(row.timestamp.actor_id),
-        },
-        actor: actor(row.actor),
-        seq: row.seq,
-        deps: oracle::clock::VectorClock {
-            peers: deps.collect(),
-        },
-        op: oracle::stubs::UirNode {
-            bytes: row.payload.clone(),
-        },
-        signature: row.signature.clone(),
-    }
+    let at = &row.timestamp;
+    let deps = row.deps.iter().map(|(author, seq)| (author.0, *seq));
+    open::operation(
+        (at.wall_time, at.logical_counter, at.actor_id.0),
+        row.actor.0,
+        row.seq,
+        deps,
+        &row.payload,
+        &row.signature,
+    )
 }
 
 pub fn operations(rows: &[Row]) -> Vec<StampedOperation> {

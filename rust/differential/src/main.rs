@@ -6,53 +6,24 @@
 #![cfg_attr(not(oracle_present), allow(dead_code))]
 #![forbid(unsafe_code)]
 
-mod area;
-mod batches;
-#[cfg(oracle_present)]
-mod beside;
-mod calls;
 mod census;
-mod damage;
-mod demand;
-mod desk;
-#[cfg(oracle_present)]
-mod faults;
-#[cfg(oracle_present)]
-mod full;
 #[cfg(oracle_present)]
 mod fuzz;
-#[cfg(oracle_present)]
-mod joined;
-#[cfg(oracle_present)]
-mod judges;
-mod lending;
-mod lists;
-#[cfg(oracle_present)]
-mod merger;
 mod model;
 #[cfg(oracle_present)]
 mod original;
-#[cfg(oracle_present)]
-mod pending;
-mod reading;
+mod port;
 #[cfg(oracle_present)]
 mod record;
-#[cfg(oracle_present)]
-mod replica;
 mod rng;
-mod rows;
 mod runner;
-mod store;
-mod strange;
 mod suites;
 mod support;
-mod worlds;
-#[cfg(oracle_present)]
-mod wrapped;
+mod world;
 
 use std::process::ExitCode;
 
-use suites::{Suite, SUITES};
+use suites::Suite;
 
 fn main() -> ExitCode {
     let names: Vec<String> = std::env::args().skip(1).collect();
@@ -74,7 +45,7 @@ fn main() -> ExitCode {
              ../shared/docs/src beside the repository. Suites that need it are skipped."
         );
     }
-    let suites = SUITES.iter().filter(|suite| chosen(suite, &names));
+    let suites = suites::all().filter(|suite| chosen(suite, &names));
     match runner::run(suites.collect(), rng::seed()) {
         Some((passed, skipped)) => {
             if skipped > 0 {
@@ -120,14 +91,14 @@ fn record(_: &str) -> ExitCode {
 }
 
 fn chosen(suite: &Suite, names: &[String]) -> bool {
-    names.is_empty() || names.iter().any(|name| name == suite.name)
+    names.is_empty() || names.contains(&suite.name())
 }
 
 fn find(name: &str) -> Option<&'static Suite> {
-    SUITES.iter().find(|suite| suite.name == name)
+    suites::all().find(|suite| suite.name() == name)
 }
 
 fn all_names() -> String {
-    let names: Vec<&str> = SUITES.iter().map(|suite| suite.name).collect();
+    let names: Vec<String> = suites::all().map(Suite::name).collect();
     names.join(", ")
 }

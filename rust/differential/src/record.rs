@@ -31,15 +31,16 @@ use std::fs;
 
 use cuwelfra_sys::MergeTold;
 
-use crate::area::{self, word};
-use crate::beside::{log_of, operation};
 use crate::census::Census;
-use crate::lists::{gated, Offer, Universe};
-use crate::merger::Original;
-use crate::model::Lent;
+use crate::original::beside::{log_of, operation};
+use crate::original::merger::Original;
+use crate::port::area::{self, word};
+use crate::port::batches::Offer;
+use crate::port::lending::Lent;
+use crate::port::rows::{Row, Stamp};
+use crate::port::store::{Areas, Entries};
 use crate::rng::Rng;
-use crate::rows::{Row, Stamp};
-use crate::store::{Areas, Entries};
+use crate::world::lists::{gated, Universe};
 
 /// Words of a record's head.
 const HEAD: usize = 26;

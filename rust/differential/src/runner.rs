@@ -38,7 +38,7 @@ pub fn run(suites: Vec<&'static Suite>, seed: u64) -> Option<(usize, usize)> {
 
 fn longest_last(suites: &[&Suite]) -> Vec<usize> {
     let rank = |at: &usize| {
-        let longest = LONGEST.iter().position(|name| *name == suites[*at].name);
+        let longest = LONGEST.iter().position(|name| *name == suites[*at].name());
         longest.unwrap_or(LONGEST.len() + at)
     };
     let mut places: Vec<usize> = (0..suites.len()).collect();
@@ -60,14 +60,14 @@ fn work(queue: &Queue, suites: &[&'static Suite], seed: u64, sender: &Sender<Ran
 }
 
 fn run_one(suite: &Suite, seed: u64) -> (String, Option<bool>) {
-    let name = suite.name;
+    let name = suite.name();
     let Some(body) = suite.run else {
         return (
             format!("{name}: skipped, it needs the Rust original\n"),
             None,
         );
     };
-    let ran = catch_unwind(|| body(&mut Rng::for_suite(seed, name)));
+    let ran = catch_unwind(|| body(&mut Rng::for_suite(seed, &name)));
     let ran = ran.unwrap_or_else(|_| Err("  it panicked".into()));
     let text = match &ran {
         Ok(cases) => format!("{}{name}: {cases} cases, ok\n", notes()),

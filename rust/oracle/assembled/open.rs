@@ -1,11 +1,40 @@
-//! Opens the original's `Reader` and `Writer`, which are visible in its own crate only, and the text of its files.
+//! Opens the original: its `Reader` and `Writer`, which are visible in its own crate only, rows made of plain numbers,
+//! and the text of its files.
 
 use alloc::vec::Vec;
 
-use crate::clock::Timestamp;
+use crate::clock::{Timestamp, VectorClock};
 use crate::codec;
 use crate::error::CodecError;
 use crate::log::StampedOperation;
+use crate::stubs::{ActorId, UirNode};
+
+/// The original's form of a row: stamp (wall time, counter, author), author, sequence, dependencies, payload, signature.
+pub fn operation(
+    stamp: (u64, u32, u64),
+    author: u64,
+    seq: u64,
+    deps: impl Iterator<Item = (u64, u64)>,
+    payload: &[u8],
+    signature: &[u8],
+) -> StampedOperation {
+    StampedOperation {
+        timestamp: Timestamp {
+            wall_time: stamp.0,
+            logical_counter: stamp.1,
+            actor_id: ActorId(stamp.2),
+        },
+        actor: ActorId(author),
+        seq,
+        deps: VectorClock {
+            peers: deps.map(|(on, number)| (ActorId(on), number)).collect(),
+        },
+        op: UirNode {
+            bytes: payload.to_vec(),
+        },
+        signature: signature.to_vec(),
+    }
+}
 
 /// The original's decoder.
 pub struct Reader<'a>(codec::Reader<'a>);

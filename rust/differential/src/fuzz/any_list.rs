@@ -1,12 +1,12 @@
 //! Random lists of calls: those of the suite call-lists, longer, some with large batches.
 
-use crate::area::AUTHORS;
-use crate::batches::BatchRow;
 use crate::fuzz::list::{Call, List, Snapshot};
-use crate::lists::{gated, Offer, Universe};
+use crate::port::area::AUTHORS;
+use crate::port::batches::{BatchRow, Offer};
+use crate::port::rows::Row;
+use crate::port::store::Entries;
 use crate::rng::Rng;
-use crate::rows::Row;
-use crate::store::Entries;
+use crate::world::lists::{gated, Universe};
 
 pub fn any_list(rng: &mut Rng) -> List {
     match rng.below(40) {

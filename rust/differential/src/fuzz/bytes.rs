@@ -1,17 +1,17 @@
 //! Batches and rows as bytes, most of which do not read.
 
-use crate::batches::batch;
 use crate::census::Census;
 use crate::fuzz::offers::{plainer_limits, shown_limits, shown_offer, smaller_offers};
 use crate::fuzz::shrink::{hex, lower, smaller_bytes, without, Input};
-use crate::lending::modelled;
-use crate::lists::{Offer, Universe};
-use crate::model::{batch_call, Lent};
+use crate::model::{batch_call, modelled};
+use crate::port::batches::{batch, Offer};
+use crate::port::lending::Lent;
+use crate::port::store::Areas;
 use crate::rng::Rng;
-use crate::store::Areas;
-use crate::strange::{over_capacity, over_limits};
-use crate::suites::row_faults::{faulty, same_row};
+use crate::suites::beside::row_faults::{faulty, same_row};
 use crate::support::Check;
+use crate::world::lists::Universe;
+use crate::world::strange::{over_capacity, over_limits};
 
 /// A batch call on the store that earlier calls leave, beside the model.
 #[derive(Clone, Debug)]

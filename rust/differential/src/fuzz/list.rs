@@ -2,18 +2,17 @@
 
 use std::collections::BTreeSet;
 
-use crate::batches::outcome_of;
-use crate::beside::{authors_fit, log_of};
 use crate::fuzz::offers::{
     shown_offer, shown_row, shown_stamp, smaller_offers, smaller_rows, smaller_stamps,
 };
 use crate::fuzz::shrink::{lower, without, Input};
-use crate::joined::Joined;
-use crate::lists::Offer;
+use crate::original::beside::{authors_fit, log_of};
+use crate::original::joined::Joined;
+use crate::port::batches::{outcome_of, Offer};
+use crate::port::rows::{Row, Stamp};
+use crate::port::store::Entries;
 use crate::rng::Rng;
-use crate::rows::{Row, Stamp};
-use crate::store::Entries;
-use crate::suites::call_lists::ignored;
+use crate::suites::beside::call_lists::ignored;
 use crate::support::Check;
 
 /// A log that did not come through the merger.

@@ -2,10 +2,9 @@
 
 use cuwelfra::Limits;
 
-use crate::batches::{batch, BatchRow};
 use crate::fuzz::shrink::{hex, lower, smaller_bytes, without};
-use crate::lists::Offer;
-use crate::rows::{Row, Stamp};
+use crate::port::batches::{batch, BatchRow, Offer};
+use crate::port::rows::{Row, Stamp};
 
 /// The settings, each of which can be put back.
 const SETTINGS: [fn(&mut Limits) -> &mut u64; 7] = [

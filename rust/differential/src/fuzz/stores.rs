@@ -1,14 +1,14 @@
 //! Stores with a few bytes changed.
 
-use crate::area::{set_word, word};
-use crate::calls::Others;
 use crate::fuzz::shrink::{lower_bytes, Input};
+use crate::port::area::{set_word, word};
+use crate::port::rows::SLOT;
+use crate::port::store::{is_sound, Areas, HEAD, HELD};
 use crate::rng::Rng;
-use crate::rows::SLOT;
-use crate::store::{is_sound, Areas, HEAD, HELD};
-use crate::suites::damaged_stores::{judged, sound};
+use crate::suites::alone::damaged_stores::{judged, sound};
 use crate::support::Check;
-use crate::worlds::World;
+use crate::world::calls::Others;
+use crate::world::World;
 
 /// The areas' bytes; the seed picks the call that is made beside the check.
 #[derive(Clone, Debug)]

@@ -5,8 +5,8 @@ use crate::fuzz::bytes::RowBytes;
 use crate::fuzz::list::{Call, List};
 use crate::fuzz::search;
 use crate::fuzz::shrink::{lower, parts, Input};
+use crate::port::rows::Row;
 use crate::rng::Rng;
-use crate::rows::Row;
 use crate::support::Check;
 
 fn fails(mistaken: bool) -> Check {

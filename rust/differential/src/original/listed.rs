@@ -1,0 +1,41 @@
+//! Outputs that list numbers, eight big-endian bytes each.
+
+use cuwelfra_sys::{Areas, ClockNumber};
+
+use crate::original::beside::{told_number, Pair};
+use crate::port::area::set_word;
+use crate::rng::Rng;
+use crate::support::{agree, pattern, refused, Check};
+
+/// Requires that a call lists these numbers in an output of at least 8 bytes for each logged row, and refuses a shorter
+/// one, with 2. All other bytes stay.
+pub fn listed(
+    rng: &mut Rng,
+    pair: &Pair,
+    numbers: &[u64],
+    inputs: impl Fn(&Pair) -> String,
+    call: impl Fn(Areas, &mut [u8]) -> ClockNumber,
+) -> Check {
+    let size = 8 * pair.original.len();
+    let room = match rng.below(6) {
+        0 => size + rng.below(20),
+        1 => size.saturating_sub(1),
+        2 => rng.below(size + 1),
+        _ => size,
+    };
+    let mut output = pattern(room);
+    let mut after = output.clone();
+    let mut answer = ClockNumber {
+        told: refused(2),
+        number: 0,
+    };
+    if room >= size {
+        for (i, number) in numbers.iter().enumerate() {
+            set_word(&mut after, i, *number);
+        }
+        answer = told_number(numbers.len() as u64);
+    }
+    let inputs = || format!("{}, output of {room} bytes", inputs(pair));
+    agree(&call(pair.areas.lent(), &mut output), &answer, inputs)?;
+    agree(&output, &after, inputs)
+}

@@ -1,0 +1,286 @@
+//! Batches as bytes: cut at every length, each byte replaced, each number overlong or around a capacity; settings, short
+//! areas and damaged stores beside them. The model answers, with a reader of its own, and no other byte changes.
+
+use cuwelfra::Limits;
+
+use crate::census::Census;
+use crate::model::{batch_call, modelled};
+use crate::port::area::word;
+use crate::port::batches::{put_varint, BatchRow, Offer};
+use crate::port::lending::Lent;
+use crate::port::rows::SLOT;
+use crate::port::store::{Areas, HEAD, HELD};
+use crate::rng::Rng;
+use crate::support::{Check, Outcome};
+use crate::world::damage::{last_held, DAMAGES, HELD_DAMAGES};
+use crate::world::lists::Universe;
+
+/// Batches that are cut and replaced at every place.
+const BATCHES: usize = 50;
+/// Stores that are broken in every way.
+const STORES: usize = 12;
+
+/// What a byte is replaced by, beside its neighbours.
+const BYTES: [u8; 6] = [0, 1, 5, 0x7f, 0x80, 0xff];
+/// What a number is replaced by.
+const NUMBERS: [u64; 20] = [
+    0,
+    1,
+    2,
+    15,
+    16,
+    17,
+    63,
+    64,
+    65,
+    127,
+    128,
+    255,
+    256,
+    257,
+    (1 << 32) - 1,
+    1 << 32,
+    1 << 63,
+    u64::MAX - 1,
+    u64::MAX,
+    300,
+];
+/// Ten bytes for 2^63 and for 2^64, eleven for 0.
+const LONG: [&[u8]; 3] = [
+    &[0x80, 0x80, 0x80, 0x80, 0x80, 0x80, 0x80, 0x80, 0x80, 1],
+    &[0x80, 0x80, 0x80, 0x80, 0x80, 0x80, 0x80, 0x80, 0x80, 2],
+    &[
+        0x80, 0x80, 0x80, 0x80, 0x80, 0x80, 0x80, 0x80, 0x80, 0x80, 0,
+    ],
+];
+
+pub fn run(rng: &mut Rng) -> Outcome {
+    let mut census = Census::default();
+    for _ in 0..BATCHES {
+        let sample = Sample::new(rng);
+        sample.every_cut(&mut census)?;
+        sample.every_byte(&mut census)?;
+        sample.every_number(&mut census)?;
+    }
+    for _ in 0..STORES {
+        let sample = Sample::new(rng);
+        sample.capacities(&mut census)?;
+        sample.in_order(&mut census)?;
+        sample.damaged(&mut census)?;
+    }
+    census.finish("batch-bytes", 1..=4, &[])
+}
+
+/// A store, and a batch for it.
+struct Sample {
+    areas: Areas,
+    rows: Vec<BatchRow>,
+    lent: Lent,
+}
+
+impl Sample {
+    fn new(rng: &mut Rng) -> Self {
+        let universe = Universe::new(rng);
+        let behind = rng.pick(&[0, 1, 703]);
+        let mut areas = Areas::new(8, behind);
+        let offer = |rng: &mut Rng| Offer {
+            limits: Limits::default(),
+            time: universe.time(rng),
+            rows: universe.batch(rng),
+        };
+        for _ in 0..2 {
+            (_, areas) = batch_call(&areas, &Lent::new(&offer(rng), 64));
+        }
+        let mut offer = offer(rng);
+        offer.limits.max_pending_age_ms = rng.pick(&[1, 3, u64::MAX]);
+        // Room for a row or two more than there are.
+        let held = word(&areas.head, 1) as usize + rng.below(3);
+        let lent = Lent::new(&offer, held);
+        let rows = offer.rows;
+        Self { areas, rows, lent }
+    }
+
+    fn with(&self, batch: Vec<u8>) -> Lent {
+        Lent {
+            batch,
+            ..self.lent.clone()
+        }
+    }
+
+    fn every_cut(&self, census: &mut Census) -> Check {
+        let batch = &self.lent.batch;
+        for len in 0..=batch.len() {
+            modelled(census, &self.areas, &self.with(batch[..len].to_vec()))?;
+        }
+        for more in [0, 1, 0x80] {
+            let mut longer = batch.clone();
+            longer.push(more);
+            modelled(census, &self.areas, &self.with(longer))?;
+        }
+        Ok(())
+    }
+
+    fn every_byte(&self, census: &mut Census) -> Check {
+        for (at, byte) in self.lent.batch.iter().enumerate() {
+            let near = [byte.wrapping_sub(1), byte.wrapping_add(1), byte ^ 0x80];
+            for other in BYTES.into_iter().chain(near) {
+                let mut batch = self.lent.batch.clone();
+                batch[at] = other;
+                modelled(census, &self.areas, &self.with(batch))?;
+            }
+        }
+        Ok(())
+    }
+
+    /// Each number alone replaced, or written in more bytes.
+    fn every_number(&self, census: &mut Census) -> Check {
+        let pieces = pieces(&self.rows);
+        for at in 0..pieces.len() {
+            let Piece::Number(number) = pieces[at] else {
+                continue;
+            };
+            let mut batch = |written: Vec<u8>| {
+                let mut batch = Vec::new();
+                for (i, piece) in pieces.iter().enumerate() {
+                    match piece {
+                        _ if i == at => batch.extend(&written),
+                        Piece::Number(number) => put_varint(&mut batch, *number),
+                        Piece::Bytes(bytes) => batch.extend(bytes),
+                    }
+                }
+                modelled(census, &self.areas, &self.with(batch))
+            };
+            for other in NUMBERS {
+                batch(overlong(other, 0))?;
+            }
+            for more in 1..=10 {
+                batch(overlong(number, more))?;
+            }
+            for long in LONG {
+                batch(long.to_vec())?;
+            }
+        }
+        Ok(())
+    }
+
+    /// Batches and rows of every size around their capacities.
+    fn capacities(&self, census: &mut Census) -> Check {
+        let Some(first) = self.rows.first() else {
+            return Ok(());
+        };
+        let mut check = |rows: &[BatchRow]| {
+            let offer = Offer {
+                limits: self.lent.limits,
+                time: self.lent.time,
+                rows: rows.to_vec(),
+            };
+            modelled(census, &self.areas, &Lent::new(&offer, 64))
+        };
+        for count in [62, 63, 64, 65, 66, 127, 128, 129] {
+            check(&vec![first.clone(); count])?;
+        }
+        for size in [15, 16, 17, 63, 64, 65, 127, 128, 129, 255, 256, 257, 300] {
+            let mut other = first.clone();
+            other.row.payload = vec![7; size];
+            check(&[other])?;
+            let mut other = first.clone();
+            other.row.signature = vec![7; size];
+            check(&[other])?;
+            let mut other = first.clone();
+            other.row.deps = (0..size as u64).map(|i| (300 + i, 0)).collect();
+            check(&[other])?;
+        }
+        Ok(())
+    }
+
+    /// Faults of every kind together: the first in document 01's order is told.
+    fn in_order(&self, census: &mut Census) -> Check {
+        for faults in 0..1 << FAULTS.len() {
+            let mut areas = self.areas.clone();
+            let mut lent = self.lent.clone();
+            for (i, fault) in FAULTS.iter().enumerate() {
+                if faults >> i & 1 == 1 {
+                    fault(&mut areas, &mut lent);
+                }
+            }
+            modelled(census, &areas, &lent)?;
+        }
+        Ok(())
+    }
+
+    /// Each rule of the store broken alone, under a batch that is good or unreadable.
+    fn damaged(&self, census: &mut Census) -> Check {
+        let mut stores = Vec::new();
+        for (_, damage) in DAMAGES {
+            let mut areas = self.areas.clone();
+            if damage(&mut areas).is_some() {
+                stores.push(areas);
+            }
+        }
+        for (_, at, value) in HELD_DAMAGES {
+            let mut areas = self.areas.clone();
+            if last_held(&mut areas, at, value).is_some() {
+                stores.push(areas);
+            }
+        }
+        for areas in stores {
+            modelled(census, &areas, &self.lent)?;
+            modelled(census, &areas, &self.with(Vec::new()))?;
+        }
+        Ok(())
+    }
+}
+
+/// Each for another step of the order of refusals.
+const FAULTS: [fn(&mut Areas, &mut Lent); 11] = [
+    |_, lent| lent.limits.max_pending = 65,
+    |_, lent| lent.limits.max_payload = 257,
+    |areas, _| areas.log.truncate(SLOT - 1),
+    |areas, _| areas.held.truncate(HELD - 1),
+    |areas, _| areas.head.truncate(HEAD - 1),
+    |areas, _| areas.head[8] = 1,
+    |_, lent| lent.batch.push(0),
+    |_, lent| lent.batch[0] = 65,
+    |_, lent| lent.output = 0,
+    |_, lent| lent.scratch = 703,
+    |_, lent| lent.limits.max_drift_ms = 0,
+];
+
+/// A part of a batch.
+enum Piece {
+    Number(u64),
+    Bytes(Vec<u8>),
+}
+
+fn pieces(rows: &[BatchRow]) -> Vec<Piece> {
+    let mut pieces = vec![Piece::Number(rows.len() as u64)];
+    for lent in rows {
+        let row = &lent.row;
+        let (wall, counter, stamper) = row.stamp;
+        let head = [wall, counter.into(), stamper, row.author, row.seq];
+        pieces.extend(head.map(Piece::Number));
+        pieces.push(Piece::Number(row.deps.len() as u64));
+        for (author, number) in &row.deps {
+            pieces.extend([*author, *number].map(Piece::Number));
+        }
+        for part in [&row.payload, &row.signature] {
+            pieces.push(Piece::Number(part.len() as u64));
+            pieces.push(Piece::Bytes(part.clone()));
+        }
+        let closing = [lent.verdict, lent.outcome, lent.detail];
+        pieces.push(Piece::Bytes(closing.map(|number| number as u8).to_vec()));
+    }
+    pieces
+}
+
+/// A varint in so many bytes more than it needs.
+fn overlong(number: u64, more: usize) -> Vec<u8> {
+    let mut bytes = Vec::new();
+    put_varint(&mut bytes, number);
+    for _ in 0..more {
+        let last = bytes.len() - 1;
+        bytes[last] |= 0x80;
+        bytes.push(0);
+    }
+    bytes
+}

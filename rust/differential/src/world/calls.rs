@@ -1,0 +1,193 @@
+//! Every exported call that takes a store, with its other areas.
+
+use cuwelfra::Limits;
+use cuwelfra_sys::{self as sys, ClockNumber, LookupTold, StampTold, Told};
+
+use crate::port::area::{self, BYTES};
+use crate::port::batches::Answer;
+use crate::port::lending::{self, Lent};
+use crate::port::rows::SLOT;
+use crate::port::store::{is_zero, Areas, HELD};
+use crate::rng::Rng;
+use crate::support::pattern;
+use crate::world::World;
+
+/// The areas that the calls take beside a store, and numbers.
+#[derive(Clone, Debug, PartialEq, Eq)]
+pub struct Others {
+    pub slot: Vec<u8>,
+    pub clock: Vec<u8>,
+    pub peer: Vec<u8>,
+    /// Room for a clock.
+    pub room: Vec<u8>,
+    pub output: Vec<u8>,
+    pub author: u64,
+    pub seq: u64,
+}
+
+impl Others {
+    pub fn new(rng: &mut Rng, world: &World) -> Self {
+        let mut peer = vec![0; 704];
+        let clock = area::encode(world.clock(rng, world.authors.len().min(4)));
+        peer[16..16 + BYTES].copy_from_slice(&clock);
+        Self {
+            slot: world.row(rng).slot().to_vec(),
+            clock: clock.to_vec(),
+            peer,
+            room: pattern(BYTES),
+            output: pattern(8 * 1_024),
+            author: world.author(rng),
+            seq: world.seq(rng),
+        }
+    }
+}
+
+type Call = fn(&mut Areas, &mut Others) -> Told;
+
+/// Which other area of fixed size a call takes.
+#[derive(Clone, Copy, Debug, PartialEq, Eq)]
+pub enum Takes {
+    Nothing,
+    Slot,
+    Clock,
+    Peer,
+    Room,
+}
+
+/// Name, other area, call.
+pub const CALLS: [(&str, Takes, Call); 18] = [
+    ("store_check", Takes::Nothing, |s, _| {
+        sys::store_check(s.lent())
+    }),
+    ("log_len", Takes::Nothing, |s, _| {
+        number(sys::log_len(s.lent()))
+    }),
+    ("pending_len", Takes::Nothing, |s, _| {
+        number(sys::pending_len(s.lent()))
+    }),
+    ("floor", Takes::Nothing, |s, _| stamp(sys::floor(s.lent()))),
+    ("watermark", Takes::Nothing, |s, o| {
+        stamp(sys::watermark(s.lent(), o.author))
+    }),
+    ("log_clock", Takes::Room, |s, o| {
+        sys::log_clock(s.lent(), &mut o.room)
+    }),
+    ("log_compacted", Takes::Room, |s, o| {
+        sys::log_compacted(s.lent(), &mut o.room)
+    }),
+    ("derive_clock", Takes::Room, |s, o| {
+        sys::derive_clock(s.lent(), &mut o.room)
+    }),
+    ("can_serve", Takes::Clock, |s, o| {
+        number(sys::can_serve(s.lent(), &o.clock))
+    }),
+    ("lookup", Takes::Nothing, |s, o| {
+        place(sys::lookup(s.lent(), o.author, o.seq))
+    }),
+    ("insert", Takes::Slot, |s, o| {
+        sys::insert(&mut s.log, &s.held, &mut s.head, &o.slot)
+    }),
+    ("compact", Takes::Nothing, |s, o| {
+        let cutoff = (u64::MAX, 0, o.author);
+        number(sys::compact(&mut s.log, &s.held, &mut s.head, cutoff))
+    }),
+    ("cutoff", Takes::Clock, |s, o| {
+        stamp(sys::cutoff(s.lent(), &o.clock))
+    }),
+    ("calculate_delta", Takes::Clock, |s, o| {
+        number(sys::calculate_delta(s.lent(), &o.clock, &mut o.output))
+    }),
+    ("chunk_ops", Takes::Clock, |s, o| {
+        number(sys::chunk_ops(
+            s.lent(),
+            &o.clock,
+            o.seq,
+            o.author,
+            &mut o.output,
+        ))
+    }),
+    ("peer_pending_ops", Takes::Peer, |s, o| {
+        number(sys::peer_pending_ops(&o.peer, s.lent()))
+    }),
+    ("set_floor", Takes::Nothing, |s, o| {
+        let floor = (u64::MAX, 0, o.author);
+        sys::set_floor(&s.log, &s.held, &mut s.head, floor)
+    }),
+    ("apply_remote_ops", Takes::Nothing, |s, o| merged(s, o)),
+];
+
+/// Cuts the other area of a call by a byte; false where it takes none.
+pub fn shorten(takes: Takes, others: &mut Others) -> bool {
+    match takes {
+        Takes::Nothing => return false,
+        Takes::Slot => others.slot.truncate(SLOT - 1),
+        Takes::Clock => others.clock.truncate(BYTES - 1),
+        Takes::Peer => others.peer.truncate(703),
+        Takes::Room => others.room.truncate(BYTES - 1),
+    }
+    true
+}
+
+/// Breaks a rule of the other area of a call; false where it has none.
+pub fn spoil(takes: Takes, others: &mut Others) -> bool {
+    match takes {
+        Takes::Nothing | Takes::Room => return false,
+        Takes::Slot => area::set_word(&mut others.slot, 15, 1),
+        Takes::Clock => area::set_word(&mut others.clock, 0, 33),
+        Takes::Peer => area::set_word(&mut others.peer, 1, 4),
+    }
+    true
+}
+
+/// A batch without rows. Scratch is zero afterwards, and a refusal gives no counts.
+fn merged(s: &mut Areas, o: &mut Others) -> Told {
+    let lent = Lent {
+        limits: Limits::default(),
+        time: 0,
+        batch: vec![0],
+        scratch: HELD,
+        output: o.output.len(),
+    };
+    let answered = lending::call(s, &lent);
+    let told = answered.told.told;
+    assert!(is_zero(&answered.scratch), "scratch");
+    if told != Told::default() {
+        let refused = Answer::refused(told);
+        assert_eq!(
+            answered.told, refused.told,
+            "a refused call gives no counts"
+        );
+    }
+    told
+}
+
+fn number(answer: ClockNumber) -> Told {
+    if answer.told != Told::default() {
+        assert_eq!(answer.number, 0, "a refused call gives no number");
+    }
+    answer.told
+}
+
+fn stamp(answer: StampTold) -> Told {
+    let told = answer.told;
+    let nothing = StampTold {
+        told,
+        ..StampTold::default()
+    };
+    if told != Told::default() {
+        assert_eq!(answer, nothing, "a refused call gives no stamp");
+    }
+    told
+}
+
+fn place(answer: LookupTold) -> Told {
+    let told = answer.told;
+    let nothing = LookupTold {
+        told,
+        ..LookupTold::default()
+    };
+    if told != Told::default() {
+        assert_eq!(answer, nothing, "a refused call gives no place");
+    }
+    told
+}
