@@ -62,7 +62,7 @@ impl Full {
     }
 
     /// So many rows, behind some or none that are compacted away; with equal stamps at that place there are fewer.
-    fn log(&self, rng: &mut Rng, logged: usize) -> ReplicatedLog {
+    pub fn log(&self, rng: &mut Rng, logged: usize) -> ReplicatedLog {
         let removed = rng.pick(&[0, 0, 1, 40, 300]);
         let mut rows = self.rows(rng, removed + logged);
         if rng.once_in(3) {

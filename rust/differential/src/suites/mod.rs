@@ -91,17 +91,16 @@ pub fn all() -> impl Iterator<Item = &'static Suite> {
     alone::SUITES.iter().chain(beside::SUITES)
 }
 
-/// The suites that run for more than four seconds, in falling order.
-pub const LONGEST: [&str; 11] = [
+/// The suites that run longest, in falling order.
+pub const LONGEST: [&str; 10] = [
     "call-lists",
     "full-size",
-    "cutoff",
+    "replica",
     "convergence",
     "compact",
-    "lookup",
-    "log-insert",
-    "delta",
-    "chunks",
-    "peer-pending",
     "from-parts",
+    "chunks",
+    "cutoff",
+    "log-insert",
+    "damaged-stores",
 ];

@@ -1,23 +1,31 @@
-//! Questions to logs of up to 1,024 rows with 32 authors and watermarks and 64 held rows, and their compaction. Fails
-//! unless each call met full stores of each kind, and answers from nothing to all.
+//! Questions to logs of up to 1,024 rows with 32 authors and watermarks and 64 held rows, their compaction, and batches on
+//! them. Fails unless each call met full stores of each kind, and answers from nothing to all.
 
 use std::collections::{BTreeMap, BTreeSet};
 
+use oracle::log::ReplicatedLog;
+
 use crate::original::beside::{entries, stamp, Pair};
 use crate::original::full::{near_clock, Full, HELD_ROWS};
+use crate::original::joined::Joined;
 use crate::port::area::AUTHORS;
 use crate::port::store::LOGGED;
 use crate::rng::Rng;
 use crate::suites::beside::{chunks, compact, cutoff, delta, lookup, peer_pending};
 use crate::support::{note, Check, Outcome};
+use crate::world::lists::gated;
 
-const STORES: u64 = 1_500;
+const STORES: u64 = 2_500;
+/// Stores on which two batches of 64 rows are called.
+const BATCHED: u64 = 1_000;
+/// The rows of both.
+const OFFERED: usize = 128;
 /// Rows of one stamp that make a store one of shared stamps.
 const SHARED: usize = 100;
 
 /// Each call, and the answers that it must reach: a number of rows, but `can_serve` answers 1 or 0, and `derive_clock`
 /// counts authors.
-const CALLS: [(&str, usize, usize); 8] = [
+const CALLS: [(&str, usize, usize); 9] = [
     ("cutoff", 0, LOGGED),
     ("can_serve", 0, 1),
     ("delta", 0, LOGGED),
@@ -26,6 +34,7 @@ const CALLS: [(&str, usize, usize); 8] = [
     ("lookup", 0, LOGGED + HELD_ROWS),
     ("derive_clock", 1, AUTHORS),
     ("compact", 0, LOGGED),
+    ("apply_remote_ops", 0, OFFERED),
 ];
 
 /// What a store is counted by.
@@ -60,12 +69,30 @@ pub fn run(rng: &mut Rng) -> Outcome {
         pair.same(|| format!("questions to {}", pair.shown()))?;
         shrink(rng, &mut pair, &mut tallies)?;
     }
+    for _ in 0..BATCHED {
+        batches(rng, &mut tallies)?;
+    }
     tallies.finish()
+}
+
+/// Two batches on a log that has room for their rows, for one less, or for none. The rows of both wait for the last.
+fn batches(rng: &mut Rng, tallies: &mut Tallies) -> Check {
+    let room = rng.pick(&[0, 1, 2, OFFERED - 1, OFFERED, OFFERED, OFFERED + 1, 400]);
+    let log = Full::new(rng).log(rng, LOGGED - room);
+    let mut joined = Joined::new(log, LOGGED);
+    let authors = rng.pick(&[10, 30, 31, 32]);
+    for offer in gated(rng, authors) {
+        let kind = kind(&joined.original.log, joined.original.held().len());
+        let told = joined.batch(rng, &offer)?;
+        let logged = told.applied + told.stale + told.rejected;
+        tallies.note("apply_remote_ops", &kind, logged as usize);
+    }
+    Ok(())
 }
 
 /// Some questions of each kind, which change nothing.
 fn ask(rng: &mut Rng, full: &Full, pair: &mut Pair, tallies: &mut Tallies) -> Check {
-    let kind = kind(pair);
+    let kind = kind(&pair.original, pair.held.len());
     let clock = entries(pair.original.clock());
     let compacted = entries(pair.original.compacted());
     for _ in 0..4 {
@@ -90,7 +117,7 @@ fn ask(rng: &mut Rng, full: &Full, pair: &mut Pair, tallies: &mut Tallies) -> Ch
 /// Compaction to stamps of the log, and the derived clock, until the log is empty or some times.
 fn shrink(rng: &mut Rng, pair: &mut Pair, tallies: &mut Tallies) -> Check {
     for _ in 0..3 {
-        let kind = kind(pair);
+        let kind = kind(&pair.original, pair.held.len());
         tallies.note("derive_clock", &kind, compact::derived(rng, pair)?);
         let ops = pair.original.ops();
         let cutoff = match rng.below(5) {
@@ -114,8 +141,7 @@ fn shrink(rng: &mut Rng, pair: &mut Pair, tallies: &mut Tallies) -> Check {
     Ok(())
 }
 
-fn kind(pair: &Pair) -> Kind {
-    let log = &pair.original;
+fn kind(log: &ReplicatedLog, held: usize) -> Kind {
     let ops = log.ops();
     let mut by_author = BTreeMap::new();
     for op in ops {
@@ -129,7 +155,7 @@ fn kind(pair: &Pair) -> Kind {
         ops.len() == LOGGED - 1,
         log.clock().peers.len() == AUTHORS,
         log.watermarks().len() == AUTHORS,
-        pair.held.len() == HELD_ROWS,
+        held == HELD_ROWS,
         shared,
         by_author.values().any(|rows| *rows >= 500),
     ]
