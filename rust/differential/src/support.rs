@@ -9,6 +9,8 @@ use cuwelfra_sys::{Told, Written};
 pub type Outcome = Result<u64, String>;
 /// Agreement, or the disagreement with its inputs.
 pub type Check = Result<(), String>;
+/// How far an answer reached, in rows mostly, `None` where the call was refused as it must be; or the disagreement.
+pub type Reach = Result<Option<usize>, String>;
 
 thread_local! {
     static NOTES: RefCell<String> = const { RefCell::new(String::new()) };

@@ -5,17 +5,17 @@ use cuwelfra_sys::{Areas, ClockNumber};
 use crate::original::beside::{told_number, Pair};
 use crate::port::area::set_word;
 use crate::rng::Rng;
-use crate::support::{agree, pattern, refused, Check};
+use crate::support::{agree, pattern, refused, Reach};
 
 /// Requires that a call lists these numbers in an output of at least 8 bytes for each logged row, and refuses a shorter
-/// one, with 2. All other bytes stay.
+/// one, with 2. All other bytes stay. Gives how many there are.
 pub fn listed(
     rng: &mut Rng,
     pair: &Pair,
     numbers: &[u64],
     inputs: impl Fn(&Pair) -> String,
     call: impl Fn(Areas, &mut [u8]) -> ClockNumber,
-) -> Check {
+) -> Reach {
     let size = 8 * pair.original.len();
     let room = match rng.below(6) {
         0 => size + rng.below(20),
@@ -37,5 +37,6 @@ pub fn listed(
     }
     let inputs = || format!("{}, output of {room} bytes", inputs(pair));
     agree(&call(pair.areas.lent(), &mut output), &answer, inputs)?;
-    agree(&output, &after, inputs)
+    agree(&output, &after, inputs)?;
+    Ok((room >= size).then_some(numbers.len()))
 }

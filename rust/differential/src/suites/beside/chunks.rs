@@ -8,7 +8,7 @@ use crate::original::beside::{clock_area, entries, log_of, vector, Pair};
 use crate::original::listed::listed;
 use crate::port::store::Entries;
 use crate::rng::Rng;
-use crate::support::{agree, Outcome};
+use crate::support::{agree, Outcome, Reach};
 use crate::world::{large_row, World};
 
 const CHUNKINGS: u64 = 200_000;
@@ -55,7 +55,7 @@ fn size(op: &StampedOperation) -> usize {
 }
 
 /// Compares the chunks of a delta, and gives how many there are.
-pub fn chunks(rng: &mut Rng, pair: &mut Pair, peer: &Entries) -> Result<usize, String> {
+pub fn chunks(rng: &mut Rng, pair: &mut Pair, peer: &Entries) -> Reach {
     let delta = sync::calculate_delta(&pair.original, &vector(peer));
     let most = rng.pick(&[0, 1, 2, 3, 5, 100, u64::MAX - 1, u64::MAX, u64::MAX]);
     let bytes = byte_limit(rng, &delta);
@@ -68,7 +68,7 @@ pub fn chunks(rng: &mut Rng, pair: &mut Pair, peer: &Entries) -> Result<usize, S
         let limits = format!("at most {most} rows and {bytes} bytes");
         format!("chunk_ops for {peer:?}, {limits}, of {}", pair.shown())
     };
-    if rng.once_in(4) {
+    let chunks = if rng.once_in(4) {
         let clock = cuwelfra::VectorClock::from_area(area);
         let answer = pair.wrapped(|store| {
             let delta = store.delta(&clock)?;
@@ -76,11 +76,12 @@ pub fn chunks(rng: &mut Rng, pair: &mut Pair, peer: &Entries) -> Result<usize, S
         });
         let lens = wanted.iter().map(|rows| *rows as usize).collect();
         agree(&answer, &Ok(lens), || inputs(pair))?;
+        Some(wanted.len())
     } else {
         listed(rng, pair, &wanted, inputs, |store, output| {
             sys::chunk_ops(store, &area, most, bytes, output)
-        })?;
-    }
+        })?
+    };
     pair.same(|| inputs(pair))?;
-    Ok(wanted.len())
+    Ok(chunks)
 }

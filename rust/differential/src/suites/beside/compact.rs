@@ -8,7 +8,7 @@ use crate::port::rows::Stamp;
 use crate::port::wrapped::wrapped_stamp;
 use crate::rng::Rng;
 use crate::suites::beside::from_parts::{small_clocks, small_lists};
-use crate::support::{agree, pattern, refused, Check, Outcome};
+use crate::support::{agree, pattern, refused, Outcome, Reach};
 use crate::world::World;
 
 const STEPS: u64 = 200_000;
@@ -57,7 +57,7 @@ fn small(rng: &mut Rng) -> Outcome {
 }
 
 /// Compares a compaction, and gives how many rows it removes.
-pub fn compacted(rng: &mut Rng, pair: &mut Pair, cutoff: Stamp) -> Result<usize, String> {
+pub fn compacted(rng: &mut Rng, pair: &mut Pair, cutoff: Stamp) -> Reach {
     let inputs = |pair: &Pair| format!("compact to {cutoff:?}, the log {}", pair.shown());
     let mut after = pair.original.clone();
     let removed = after.compact(&timestamp(cutoff));
@@ -71,11 +71,11 @@ pub fn compacted(rng: &mut Rng, pair: &mut Pair, cutoff: Stamp) -> Result<usize,
     agree(&answer, &told_number(removed as u64), || inputs(pair))?;
     pair.now(after);
     pair.same(|| inputs(pair))?;
-    Ok(removed)
+    Ok(Some(removed))
 }
 
 /// Compares the derived clock, and gives how many authors it has.
-pub fn derived(rng: &mut Rng, pair: &mut Pair) -> Result<usize, String> {
+pub fn derived(rng: &mut Rng, pair: &mut Pair) -> Reach {
     let clock = pair.original.derive_clock();
     let wanted = clock_area(&clock);
     if rng.once_in(4) {
@@ -84,14 +84,14 @@ pub fn derived(rng: &mut Rng, pair: &mut Pair) -> Result<usize, String> {
         agree(&answer, &Ok(wanted), || {
             format!("derive_clock of {}", pair.shown())
         })?;
-    } else {
-        derived_into(rng, pair, &wanted)?;
+    } else if !derived_into(rng, pair, &wanted)? {
+        return Ok(None);
     }
-    Ok(clock.peers.len())
+    Ok(Some(clock.peers.len()))
 }
 
-/// Into an area that is exact, longer or short.
-fn derived_into(rng: &mut Rng, pair: &Pair, wanted: &Area) -> Check {
+/// Into an area that is exact, longer or short; gives whether it fits.
+fn derived_into(rng: &mut Rng, pair: &Pair, wanted: &Area) -> Result<bool, String> {
     let room = rng.pick(&[BYTES, BYTES, BYTES + 1, BYTES + 70, BYTES - 1, 0]);
     let mut area = pattern(room);
     let mut after = area.clone();
@@ -107,5 +107,6 @@ fn derived_into(rng: &mut Rng, pair: &Pair, wanted: &Area) -> Check {
         inputs,
     )?;
     agree(&area, &after, inputs)?;
-    pair.same(inputs)
+    pair.same(inputs)?;
+    Ok(room >= BYTES)
 }

@@ -10,7 +10,7 @@ use crate::port::store::Entries;
 use crate::port::wrapped::wrapped_stamp;
 use crate::rng::Rng;
 use crate::suites::beside::from_parts::{small_clocks, small_lists};
-use crate::support::{agree, Outcome};
+use crate::support::{agree, Outcome, Reach};
 use crate::world::World;
 
 const QUESTIONS: u64 = 200_000;
@@ -54,7 +54,7 @@ fn small(rng: &mut Rng) -> Outcome {
 }
 
 /// Compares a cutoff, and gives how many rows are at or below it.
-pub fn asked(rng: &mut Rng, pair: &mut Pair, frontier: &Entries) -> Result<usize, String> {
+pub fn asked(rng: &mut Rng, pair: &mut Pair, frontier: &Entries) -> Reach {
     let clock = vector(frontier);
     let wanted = gc::cutoff(&pair.original, &clock);
     let area = clock_area(&clock);
@@ -69,11 +69,12 @@ pub fn asked(rng: &mut Rng, pair: &mut Pair, frontier: &Entries) -> Result<usize
         agree(&answer, &told_stamp(wanted.as_ref()), || shown(pair))?;
     }
     let ops = pair.original.ops();
-    Ok(wanted.map_or(0, |cut| ops.partition_point(|op| op.timestamp <= cut)))
+    let below = |cut| ops.partition_point(|op| op.timestamp <= cut);
+    Ok(Some(wanted.map_or(0, below)))
 }
 
 /// Compares whether the log can serve a peer, and gives 1 or 0.
-pub fn served(rng: &mut Rng, pair: &mut Pair, peer: &Entries) -> Result<usize, String> {
+pub fn served(rng: &mut Rng, pair: &mut Pair, peer: &Entries) -> Reach {
     let clock = vector(peer);
     let wanted = pair.original.can_serve(&clock);
     let area = clock_area(&clock);
@@ -86,5 +87,5 @@ pub fn served(rng: &mut Rng, pair: &mut Pair, peer: &Entries) -> Result<usize, S
         let answer = sys::can_serve(pair.areas.lent(), &area);
         agree(&answer, &told_number(u64::from(wanted)), || shown(pair))?;
     }
-    Ok(usize::from(wanted))
+    Ok(Some(usize::from(wanted)))
 }

@@ -7,7 +7,7 @@ use crate::original::beside::{clock_area, entries, row, vector, Pair};
 use crate::original::listed::listed;
 use crate::port::store::Entries;
 use crate::rng::Rng;
-use crate::support::{agree, Outcome};
+use crate::support::{agree, Outcome, Reach};
 use crate::world::World;
 
 const DELTAS: u64 = 200_000;
@@ -44,11 +44,11 @@ fn positions(pair: &Pair, peer: &Entries) -> Vec<u64> {
 }
 
 /// Compares a delta, and gives how many rows it has.
-pub fn delta(rng: &mut Rng, pair: &mut Pair, peer: &Entries) -> Result<usize, String> {
+pub fn delta(rng: &mut Rng, pair: &mut Pair, peer: &Entries) -> Reach {
     let wanted = positions(pair, peer);
     let area = clock_area(&vector(peer));
     let inputs = |pair: &Pair| format!("calculate_delta for {peer:?} of {}", pair.shown());
-    if rng.once_in(4) {
+    let rows = if rng.once_in(4) {
         let clock = cuwelfra::VectorClock::from_area(area);
         let answer = pair.wrapped(|store| {
             let delta = store.delta(&clock);
@@ -56,11 +56,12 @@ pub fn delta(rng: &mut Rng, pair: &mut Pair, peer: &Entries) -> Result<usize, St
         });
         let positions = wanted.iter().map(|i| *i as usize).collect();
         agree(&answer, &Ok(positions), || inputs(pair))?;
+        Some(wanted.len())
     } else {
         listed(rng, pair, &wanted, inputs, |store, output| {
             sys::calculate_delta(store, &area, output)
-        })?;
-    }
+        })?
+    };
     pair.same(|| inputs(pair))?;
-    Ok(wanted.len())
+    Ok(rows)
 }

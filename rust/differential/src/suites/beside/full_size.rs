@@ -53,6 +53,8 @@ type Kind = [bool; KINDS.len()];
 #[derive(Default)]
 struct Tally {
     questions: u64,
+    /// Of which refused, as they must be.
+    refused: u64,
     kinds: [u64; KINDS.len()],
     answers: BTreeSet<usize>,
 }
@@ -85,7 +87,8 @@ fn batches(rng: &mut Rng, tallies: &mut Tallies) -> Check {
         let kind = kind(&joined.original.log, joined.original.held().len());
         let told = joined.batch(rng, &offer)?;
         let logged = told.applied + told.stale + told.rejected;
-        tallies.note("apply_remote_ops", &kind, logged as usize);
+        let reach = (told.told.number == 0).then_some(logged as usize);
+        tallies.note("apply_remote_ops", &kind, reach);
     }
     Ok(())
 }
@@ -162,9 +165,14 @@ fn kind(log: &ReplicatedLog, held: usize) -> Kind {
 }
 
 impl Tallies {
-    fn note(&mut self, call: &'static str, kind: &Kind, answer: usize) {
+    /// Stores are counted where the call was not refused.
+    fn note(&mut self, call: &'static str, kind: &Kind, answer: Option<usize>) {
         let tally = self.0.entry(call).or_default();
         tally.questions += 1;
+        let Some(answer) = answer else {
+            tally.refused += 1;
+            return;
+        };
         for (count, holds) in tally.kinds.iter_mut().zip(kind) {
             *count += u64::from(*holds);
         }
@@ -183,8 +191,9 @@ impl Tallies {
             let listed = kinds.clone().map(|(kind, n)| format!("{kind} {n}"));
             let listed: Vec<String> = listed.collect();
             note(&format!(
-                "full-size: {call} {}, of which with {}; answers from {least} to {most}",
+                "full-size: {call} {}, refused {}, answered with {}; answers from {least} to {most}",
                 tally.questions,
+                tally.refused,
                 listed.join(", ")
             ));
             if let Some((kind, _)) = kinds.clone().find(|(_, n)| *n == 0) {

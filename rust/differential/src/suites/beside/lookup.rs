@@ -6,7 +6,7 @@ use cuwelfra_sys::{self as sys, LookupTold, Told};
 use crate::original::beside::Pair;
 use crate::port::rows::SLOT;
 use crate::rng::Rng;
-use crate::support::{agree, Outcome};
+use crate::support::{agree, Outcome, Reach};
 use crate::world::World;
 
 const LOOKUPS: u64 = 200_000;
@@ -69,7 +69,7 @@ fn search(pair: &Pair, author: u64, seq: u64) -> Option<(u64, usize, Vec<u8>)> {
 }
 
 /// Compares a lookup, and gives how many rows it goes through up to the one that it finds, 0 for none.
-pub fn lookup(rng: &mut Rng, pair: &mut Pair, author: u64, seq: u64) -> Result<usize, String> {
+pub fn lookup(rng: &mut Rng, pair: &mut Pair, author: u64, seq: u64) -> Reach {
     let found = search(pair, author, seq);
     let logged = pair.original.len();
     let passed = found.as_ref().map_or(0, |(place, i, _)| match place {
@@ -94,7 +94,7 @@ pub fn lookup(rng: &mut Rng, pair: &mut Pair, author: u64, seq: u64) -> Result<u
             _ => (Place::Held(i), payload),
         });
         agree(&answer, &Ok(wanted), || inputs(pair))?;
-        return Ok(passed);
+        return Ok(Some(passed));
     }
     let told = sys::lookup(pair.areas.lent(), author, seq);
     let wanted = found.as_ref().map(|(place, i, payload)| LookupTold {
@@ -105,7 +105,7 @@ pub fn lookup(rng: &mut Rng, pair: &mut Pair, author: u64, seq: u64) -> Result<u
     });
     agree(&told, &wanted.unwrap_or_default(), || inputs(pair))?;
     let Some((place, _, payload)) = found else {
-        return Ok(0);
+        return Ok(Some(0));
     };
     let area = if place == 1 {
         &pair.areas.log
@@ -114,5 +114,5 @@ pub fn lookup(rng: &mut Rng, pair: &mut Pair, author: u64, seq: u64) -> Result<u
     };
     let part = &area[told.slot as usize * SLOT + 384..][..told.len as usize];
     agree(&part, &&payload[..], || inputs(pair))?;
-    Ok(passed)
+    Ok(Some(passed))
 }

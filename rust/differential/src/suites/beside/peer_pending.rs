@@ -9,7 +9,7 @@ use crate::port::area::set_word;
 use crate::port::store::Entries;
 use crate::rng::Rng;
 use crate::suites::beside::peers::{encode, ANSWERED, OUTSTANDING, PEER};
-use crate::support::{agree, refused, Outcome};
+use crate::support::{agree, refused, Outcome, Reach};
 use crate::world::World;
 
 const QUESTIONS: u64 = 200_000;
@@ -33,7 +33,7 @@ pub fn run(rng: &mut Rng) -> Outcome {
 
 /// Compares how many logged rows a peer with this clock lacks, and gives that; refused where its area is short or breaks
 /// a rule.
-pub fn pending_ops(rng: &mut Rng, pair: &mut Pair, clock: &Entries) -> Result<usize, String> {
+pub fn pending_ops(rng: &mut Rng, pair: &mut Pair, clock: &Entries) -> Reach {
     let mut peer = Peer::new(ActorId(rng.edge()));
     peer.remote_clock = vector(clock);
     let mut area = encode(&peer, &[0; PEER]);
@@ -44,7 +44,7 @@ pub fn pending_ops(rng: &mut Rng, pair: &mut Pair, clock: &Entries) -> Result<us
         let peer = cuwelfra::Peer::from_area(area);
         let answer = pair.wrapped(|store| peer.pending_ops(store));
         agree(&answer, &Ok(count), || inputs(pair))?;
-        return Ok(count);
+        return Ok(Some(count));
     }
     let mut len = PEER;
     if rng.once_in(8) {
@@ -62,5 +62,5 @@ pub fn pending_ops(rng: &mut Rng, pair: &mut Pair, clock: &Entries) -> Result<us
     }
     let answer = sys::peer_pending_ops(&area[..len], pair.areas.lent());
     agree(&answer, &wanted, || inputs(pair))?;
-    Ok(count)
+    Ok((wanted.told.number == 0).then_some(count))
 }
