@@ -52,6 +52,11 @@ pub fn refused(number: u64) -> Told {
     }
 }
 
+/// Requires that a call before the one that is looked at was accepted.
+pub fn accepted(told: Told) {
+    assert_eq!(told, Told::default());
+}
+
 /// Bytes that a call must not touch.
 pub fn pattern(len: usize) -> Vec<u8> {
     (0..len)

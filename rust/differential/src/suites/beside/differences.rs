@@ -14,7 +14,7 @@ use crate::port::area::{self, set_word};
 use crate::port::desk::{row, Desk};
 use crate::rng::Rng;
 use crate::suites::beside::peers::{OUTSTANDING, PEER};
-use crate::support::{agree, refused, Check, Outcome};
+use crate::support::{accepted, agree, refused, Check, Outcome};
 
 type Case = fn() -> Check;
 
@@ -52,7 +52,7 @@ fn nine_pings() -> Check {
     ];
     for (i, call) in calls.iter().enumerate() {
         let mut area = [0; PEER];
-        sys::peer_new(&mut area, 7);
+        accepted(sys::peer_new(&mut area, 7));
         set_word(&mut area, OUTSTANDING, 9);
         let before = area;
         agree(&call(&mut area), &refused(1), || format!("call {i}"))?;

@@ -7,7 +7,7 @@ use crate::port::area::{self, set_word, BYTES};
 use crate::port::desk::{row, Desk};
 use crate::port::rows::SLOT;
 use crate::port::store::{Areas, HEAD, HELD};
-use crate::support::pattern;
+use crate::support::{accepted, pattern};
 
 /// Bytes of a peer.
 const PEER: usize = 704;
@@ -94,7 +94,7 @@ pub const PROVOCATIONS: &[Provocation] = &[
     }),
     ("a row inserted into a full log", [17, 0, 0], || {
         let mut areas = Areas::new(1, 0);
-        insert(&mut areas, &row(1, 1).row.slot());
+        accepted(insert(&mut areas, &row(1, 1).row.slot()));
         insert(&mut areas, &row(1, 2).row.slot())
     }),
     ("two parts for one slot", [17, 0, 0], || {
@@ -107,7 +107,7 @@ pub const PROVOCATIONS: &[Provocation] = &[
     ("a row of a 33rd author, inserted", [18, 0, 0], || {
         let mut areas = Areas::new(33, 0);
         for author in 1..=32 {
-            insert(&mut areas, &row(author, 1).row.slot());
+            accepted(insert(&mut areas, &row(author, 1).row.slot()));
         }
         insert(&mut areas, &row(33, 1).row.slot())
     }),

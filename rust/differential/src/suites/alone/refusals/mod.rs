@@ -90,7 +90,7 @@ fn mapped(rng: &mut Rng) -> Outcome {
         comes_through(told)?;
         cases += 1;
     }
-    for number in [26, u64::MAX] {
+    for number in [26, Refusal::MISFIT - 1] {
         let told = Told {
             number,
             ..Told::default()
@@ -99,6 +99,8 @@ fn mapped(rng: &mut Rng) -> Outcome {
         agree(&Refusal::check(told), &unknown, || format!("{told:?}"))?;
         cases += 1;
     }
+    let misfit = Refusal::MisfitAnswer;
+    agree(&Refusal::check(misfit.told()), &Err(misfit), String::new)?;
     agree(&Refusal::check(Told::default()), &Ok(()), String::new)?;
-    Ok(cases + 1)
+    Ok(cases + 2)
 }

@@ -4,6 +4,7 @@ use cuwelfra_sys as sys;
 
 use super::Provocation;
 use crate::port::area::{self, Area};
+use crate::support::accepted;
 
 pub const PROVOCATIONS: &[Provocation] = &[
     ("a 33rd author observed", [18, 0, 0], || {
@@ -17,8 +18,8 @@ pub const PROVOCATIONS: &[Provocation] = &[
     }),
     ("a 33rd author absorbed by a peer", [18, 0, 0], || {
         let mut peer = [0; 704];
-        sys::peer_new(&mut peer, 7);
-        sys::peer_absorb_clock(&mut peer, &full_clock());
+        accepted(sys::peer_new(&mut peer, 7));
+        accepted(sys::peer_absorb_clock(&mut peer, &full_clock()));
         sys::peer_absorb_clock(&mut peer, &area::encode([(33, 1)]))
     }),
     ("a clock at 2^64 - 1", [19, 0, 0], || {
@@ -38,8 +39,8 @@ pub const PROVOCATIONS: &[Provocation] = &[
     }),
     ("a pong without a ping", [21, 0, 0], || {
         let mut peer = [0; 704];
-        sys::peer_new(&mut peer, 7);
-        sys::peer_record_ping(&mut peer, 1);
+        accepted(sys::peer_new(&mut peer, 7));
+        accepted(sys::peer_record_ping(&mut peer, 1));
         sys::peer_take_pong(&mut peer, 2)
     }),
     ("no byte", [22, 0, 0], || sys::get_u8(&[], 0).told),
