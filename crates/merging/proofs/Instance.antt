@@ -18,19 +18,15 @@ use Rattle.clock.specs.Entries.{rising}
 use Rattle.clock.proofs.Lex.{clash}
 use Rattle.clock.specs.Vector.{pairs, authorsOf, numbersOf, entries, clockOf}
 use Rattle.clock.specs.Area.{column, clockAt, zipped, clockBytes}
-use Rattle.codec.specs.Leb128.{groups, ends, valueOf}
-use Rattle.codec.specs.Reading.{judged, judge, getVarint, partOf}
-use Rattle.row.specs.Rows.{Row, wordPairs, byteList, outcomeOk}
+use Rattle.row.specs.Rows.{Row, wordPairs, byteList}
 use Rattle.row.specs.Slots.{encodeSlots, slotsAt}
-use Rattle.row.specs.Reading.{number, readHead, readPair, readPairs, readDeps, readPart, readClosing, readRow}
 use Rattle.row.proofs.Truths.{list-bytes}
 use Rattle.log.specs.Store.{Floor, none, floor, Store, derive, all, neverFalls, sameId, heldRise, noTwice, marksRise, stampOk, floorOk, clockOk, rules}
 use Rattle.log.specs.Areas.{Areas, areas, capacity, floorWords, encodeMarks, loggedRows, logBytes, heldBytes, headBytes, rowsOf, stampAt, floorBy, marksAt, decodeStore, countsOk, holds, soundAreas, longEnough, readStore}
-use Rattle.merging.specs.Batch.{readRows, readBatch}
 use Rattle.merging.specs.Merging.{sameContent}
 use Rattle.merging.specs.Calls.{raiseFloor}
 use Rattle.merging.specs.Offers.{Call, Given, AllGiven, Empty, batchRows, offered, Accepted, accepted, Spans, OneContent, Within, Converges}
-use Rattle.merging.specs.Examples.{stampOf, rowOf, held, emptyStore, limits, r11, r21, computing}
+use Rattle.merging.specs.Examples.{stampOf, rowOf, held, emptyStore, limits, r11, r21, computing, reading}
 use Rattle.merging.proofs.Ruling.{all-every}
 use Rattle.merging.proofs.Contents.{one-row}
 use Rattle.merging.proofs.Convergence.{convergence}
@@ -102,7 +98,7 @@ trace₂ = record { store = after 60 (floor (stampOf 5 1)); offers = r11 ∷ r22
 
 -- stands for the definitions that read a batch and trace calls
 tracing : ℕ
-unfolding computing trace answerOn readBatch readRows readRow readHead readDeps readPairs readPair readPart readClosing number getVarint judge judged groups ends valueOf partOf outcomeOk batchRows raiseFloor
+unfolding computing reading trace answerOn batchRows raiseFloor
 tracing = 0
 
 -- over the store as values and the batches' bytes

@@ -11,13 +11,15 @@ use Rattle.clock.specs.declared.stamp.Timestamp.{Timestamp}
 use Rattle.clock.specs.Order.{less, stampKey, stampLess}
 use Rattle.clock.specs.Entries.{get, observe, put, putBy}
 use Rattle.clock.specs.Hybrid.{saturating}
-use Rattle.row.specs.Rows.{Row, HeldRow, workKey, workLess}
+use Rattle.codec.specs.Leb128.{groups, ends, valueOf}
+use Rattle.codec.specs.Reading.{judged, judge, getVarint, partOf}
+use Rattle.row.specs.Rows.{Row, HeldRow, outcomeOk, workKey, workLess}
 use Rattle.row.specs.Slots.{same}
-use Rattle.row.specs.Reading.{BatchRow}
+use Rattle.row.specs.Reading.{BatchRow, number, readHead, readPair, readPairs, readDeps, readPart, readClosing, readRow}
 use Rattle.log.specs.Store.{Mark, Floor, none, floor, Store, sameId, sameEntries}
 use Rattle.log.specs.Areas.{rowsOf}
 use Rattle.log.specs.Calls.{insertRow, insert, insertAll, fits, raise, raiseBy, later}
-use Rattle.merging.specs.Batch.{Limits, limitsOk, ownFuture, validate, validateAll}
+use Rattle.merging.specs.Batch.{Limits, limitsOk, readRows, readBatch, ownFuture, validate, validateAll}
 use Rattle.merging.specs.Merging.{expireBy, unexpired, sameStamp, sameContent, lookBy, look, enterBy, enter, whenKnown, admit, admitAll, depsMet, ready, past, pickBy, firstReady, tryLog, next, drain, stale, fate, fateDetail, line, lines, countIf, payloadBytes, heldBy, lower, lowestOver, authorQuota, quotas, Report, Merged, commit, report, settle, finish, merge}
 use Rattle.merging.specs.Calls.{roomFor}
 use Rattle.merging.specs.Offers.{logLess}
@@ -189,6 +191,17 @@ logged-again : counts (twice (limits 64 1000) (given 0 r11 ∷ []) (given 3 r11 
     ≡ done (record { applied = 0; stale = 0; rejected = 0; duplicates = 1; held = 0; expired = 0; dropped = 0 })
 unfolding computing
 logged-again = refl
+
+-- stands for the definitions that read a batch's bytes
+unfoldable pub reading : ℕ
+unfolding readBatch readRows readRow readHead readDeps readPairs readPair readPart readClosing number getVarint judge judged groups ends valueOf partOf outcomeOk
+reading = 0
+
+-- "comparing rows by bytes, though 80 00 and 00 are equal values": 1:1 twice in a batch, its counter written as 00 and as 80 00
+by-value : counts (andThen (readBatch (2 ∷ 5 ∷ 0 ∷ 1 ∷ 1 ∷ 1 ∷ 0 ∷ 0 ∷ 0 ∷ 1 ∷ 0 ∷ 0 ∷ 5 ∷ 0x80 ∷ 0 ∷ 1 ∷ 1 ∷ 1 ∷ 0 ∷ 0 ∷ 0 ∷ 1 ∷ 0 ∷ 0 ∷ [])) (once (limits 64 1000)))
+    ≡ done (record { applied = 1; stale = 0; rejected = 0; duplicates = 1; held = 0; expired = 0; dropped = 0 })
+unfolding computing reading
+by-value = refl
 
 -- "If it is not its author's next it is dropped": a held row at the clock's number
 dropped-row : counts (merge 10 (limits 64 1000) 1000 (record { log = r11 ∷ []; held = held 900 r11 ∷ []; floor = none; clock = (1, 1) ∷ []; compacted = []; marks = [] }) [])
