@@ -2,7 +2,7 @@
 
 use std::thread;
 
-use cuwelfra_sys::ffi::{cuwelfra_apply_remote_ops, cuwelfra_from_parts, cuwelfra_read_op};
+use cuwelfra_sys::{apply_remote_ops, from_parts, read_op, AreasMut, Settings};
 
 const STACK_BYTES: usize = 32 * 1024;
 const ROWS: usize = 1_024;
@@ -47,32 +47,22 @@ fn a_batch_of_64_rows() {
     let (mut store, batch) = (Store::new(), batch());
     let mut scratch = vec![0; 64 * SLOT_BYTES];
     let mut output = vec![0; 64 * 18];
+    let settings = Settings {
+        max_pending: 64,
+        max_pending_per_actor: 64,
+        max_pending_bytes: 64 * 256,
+        max_pending_age_ms: 3_600_000,
+        max_drift_ms: 60_000,
+        max_deps: 16,
+        max_payload: 256,
+    };
     let report = on_a_small_stack(|| {
-        // SAFETY: each pointer is good for the length beside it, and no two areas overlap.
-        unsafe {
-            cuwelfra_apply_remote_ops(
-                64,
-                64,
-                64 * 256,
-                3_600_000,
-                60_000,
-                16,
-                256,
-                1_000,
-                store.log.as_mut_ptr(),
-                store.log.len(),
-                store.held.as_mut_ptr(),
-                store.held.len(),
-                store.head.as_mut_ptr(),
-                store.head.len(),
-                batch.as_ptr(),
-                batch.len(),
-                scratch.as_mut_ptr(),
-                scratch.len(),
-                output.as_mut_ptr(),
-                output.len(),
-            )
-        }
+        let areas = AreasMut {
+            log: &mut store.log,
+            held: &mut store.held,
+            head: &mut store.head,
+        };
+        apply_remote_ops(settings, 1_000, areas, &batch, &mut scratch, &mut output)
     });
     assert_eq!((report.told.number, report.applied), (0, 64));
 }
@@ -81,35 +71,11 @@ fn a_batch_of_64_rows() {
 fn a_store_of_1024_parts() {
     let (mut store, batch) = (Store::new(), batch());
     let mut slot = [0; SLOT_BYTES];
-    // SAFETY: as above.
-    let read = unsafe {
-        cuwelfra_read_op(
-            batch.as_ptr(),
-            batch.len(),
-            1,
-            slot.as_mut_ptr(),
-            slot.len(),
-        )
-    };
-    assert_eq!(read.told.number, 0);
+    assert_eq!(read_op(&batch, 1, &mut slot).told.number, 0);
     let (parts, compacted) = (slot.repeat(ROWS), [0; 520]);
     let told = on_a_small_stack(|| {
-        // SAFETY: as above.
-        unsafe {
-            cuwelfra_from_parts(
-                store.log.as_mut_ptr(),
-                store.log.len(),
-                store.held.as_mut_ptr(),
-                store.held.len(),
-                store.head.as_mut_ptr(),
-                store.head.len(),
-                parts.as_ptr(),
-                parts.len(),
-                ROWS,
-                compacted.as_ptr(),
-                compacted.len(),
-            )
-        }
+        let Store { log, held, head } = &mut store;
+        from_parts(log, held, head, &parts, ROWS, &compacted)
     });
     assert_eq!(told.number, 0);
     assert_eq!(store.head[..8], 1_024u64.to_be_bytes());

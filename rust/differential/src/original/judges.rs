@@ -3,10 +3,10 @@
 use std::cell::{Cell, RefCell};
 use std::sync::OnceLock;
 
-use cuwelfra_sys::Told;
+use cuwelfra_sys::{MergeTold, Told};
 use oracle::clock::Timestamp;
 use oracle::error::{ApplyError, MergeError, SnapshotError};
-use oracle::merge::OpPolicy;
+use oracle::merge::{MergeReport, OpPolicy};
 use oracle::stubs::crypto::Verifier;
 use oracle::stubs::{ActorId, CrdtCompatible, State, UirNode};
 
@@ -103,6 +103,18 @@ pub fn rejected_fate(error: &ApplyError) -> (u8, u8) {
         ApplyError::UnknownOpTag(tag) => (3, *tag),
         ApplyError::Denied => (4, 0),
         ApplyError::Invalid(text) => (5, text.parse().expect("a text's number")),
+    }
+}
+
+/// The counts that the original reports; it has none of expired and dropped rows.
+pub fn reported(report: &MergeReport) -> MergeTold {
+    MergeTold {
+        applied: report.applied as u64,
+        stale: report.stale as u64,
+        rejected: report.rejected.len() as u64,
+        duplicates: report.duplicates as u64,
+        held: report.buffered as u64,
+        ..MergeTold::default()
     }
 }
 

@@ -7,7 +7,7 @@ use oracle::merge::{MergeReport, Merger};
 use oracle::stubs::ActorId;
 
 use crate::original::beside::{authors_fit, content_of, operation, stamp, timestamp};
-use crate::original::judges::{merge_told, rejected_fate, Applied, Outcomes, Verdicts};
+use crate::original::judges::{merge_told, rejected_fate, reported, Applied, Outcomes, Verdicts};
 use crate::original::pending;
 use crate::port::batches::{Answer, Line, Offer};
 use crate::port::rows::{Held, Stamp};
@@ -106,16 +106,8 @@ impl Original {
         let age = offer.limits.max_pending_age_ms;
         let oldest = offer.time.saturating_sub(age);
         let expired = self.held.iter().filter(|held| held.arrival < oldest);
-        let mut told = MergeTold {
-            told: Told::default(),
-            applied: report.applied as u64,
-            stale: report.stale as u64,
-            rejected: report.rejected.len() as u64,
-            duplicates: report.duplicates as u64,
-            held: report.buffered as u64,
-            expired: expired.count() as u64,
-            dropped: 0,
-        };
+        let mut told = reported(report);
+        told.expired = expired.count() as u64;
         let logged = (after.log.len() - self.log.len()) as u64;
         assert_eq!(told.applied + told.stale + told.rejected, logged);
         // Of the rows before, these are left when all others are counted.

@@ -4,7 +4,7 @@ use std::cell::RefCell;
 use std::collections::VecDeque;
 use std::rc::Rc;
 
-use cuwelfra_sys::{MergeTold, Told};
+use cuwelfra_sys::MergeTold;
 use oracle::clock::ManualClock;
 use oracle::engine::{Event, LogImage, Replica, ReplicaConfig};
 use oracle::error::FrameError;
@@ -14,7 +14,7 @@ use oracle::stubs::crypto::{KeyedHashSigner, Verifier};
 use oracle::stubs::ActorId;
 
 use crate::original::beside::{operation, timestamp};
-use crate::original::judges::{merge_told, rejected_fate, Applied, Outcomes};
+use crate::original::judges::{merge_told, rejected_fate, reported, Applied, Outcomes};
 use crate::port::batches::Offer;
 use crate::port::rows::Stamp;
 
@@ -118,16 +118,7 @@ impl Driven {
 
 fn told(answer: Result<MergeReport, FrameError>) -> MergeTold {
     match answer {
-        Ok(report) => MergeTold {
-            told: Told::default(),
-            applied: report.applied as u64,
-            stale: report.stale as u64,
-            rejected: report.rejected.len() as u64,
-            duplicates: report.duplicates as u64,
-            held: report.buffered as u64,
-            expired: 0,
-            dropped: 0,
-        },
+        Ok(report) => reported(&report),
         Err(FrameError::Merge(error)) => MergeTold {
             told: merge_told(&error),
             ..MergeTold::default()
