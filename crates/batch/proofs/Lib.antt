@@ -1,3 +1,3 @@
-pub mod Validating
-pub mod Counting
-pub mod Starting
+pub mod Validation
+pub mod BatchLoop
+pub mod RowStarts

@@ -1,2 +1,2 @@
-pub mod Views
-pub mod Promises
+pub mod Settings
+pub mod inside

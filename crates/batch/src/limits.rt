@@ -9,10 +9,10 @@ use stubs::ActorId;
 ghost use mathlib.Core.Path.{_≡_};
 ghost use Prim.Native.Nat.{_≤_};
 ghost use Rattle.clock.specs.Vector.{outcomeOf};
-ghost use Rattle.row.specs.Views.{depsOf};
+ghost use Rattle.row.specs.Values.{depsOf};
 ghost use Rattle.merging.specs.Batch.{ownFuture};
-ghost use Rattle.batch.specs.Views.{limitsOf};
-ghost use Rattle.batch.specs.Promises.{Validates, GoesOn};
+ghost use Rattle.batch.specs.Settings.{limitsOf};
+ghost use Rattle.batch.specs.inside.BatchReads.{Validates, GoesOn};
 
 // Whether a dependency on the row's own author is not below its sequence.
 fn own_future(d: Deps, actor: ActorId, seq: u64) -> bool

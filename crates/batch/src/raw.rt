@@ -12,8 +12,8 @@ use row::reader::read_row;
 ghost use mathlib.Core.Path.{_≡_};
 ghost use Prim.Native.Nat.{_≤_};
 ghost use lib.ListN.{length};
-ghost use Rattle.batch.specs.Views.{limitsOf};
-ghost use Rattle.batch.specs.Promises.{noBatch, ReadsRows, ReadsBatch, RowsStart};
+ghost use Rattle.batch.specs.Settings.{limitsOf};
+ghost use Rattle.batch.specs.inside.BatchReads.{noBatch, ReadsRows, ReadsBatch, RowsStart};
 
 // A batch that is refused.
 fn no_batch(r: Refusal) -> BatchRead

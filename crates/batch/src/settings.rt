@@ -2,7 +2,7 @@
 use crate::MergeLimits;
 ghost use mathlib.Core.Path.{_≡_};
 ghost use Rattle.merging.specs.Batch.{limitsOk};
-ghost use Rattle.batch.specs.Views.{limitsOf};
+ghost use Rattle.batch.specs.Settings.{limitsOf};
 
 // Whether the settings are within the closing list.
 pub fn are_within(limits: MergeLimits) -> bool

@@ -1,11 +1,9 @@
 pub mod Order
 pub mod Hlc
 pub mod Hybrid
-pub mod Examples
 pub mod Monotone
 pub mod Entries
 pub mod FidgeMattern
 pub mod Vector
 pub mod Area
-pub mod Rows
-pub mod VectorExamples
+pub mod inside

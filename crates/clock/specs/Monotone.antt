@@ -1,169 +1,60 @@
--- "Every issued stamp is greater than the last one issued and than every stamp received before". Assumes nothing.
-use Prim.Native.Nat.{ℕ, _^_, _<_, _≤_}
-use mathlib.Core.Path.{_≡_, refl, sym, ap, subst}
-use mathlib.Core.Bool.{true, false}
-use mathlib.Core.List.{List, [], _∷_, List·Memᴰ, List·Memᴰ·cases-cons, List·Memᴰ·not-nil}
-use mathlib.Core.Logic.{_⊎_, inl, inr}
-use native.Mathlib.Omega.{arith}
-use lib.Dec.{ltb, leb, eqb}
-use borrow.Author.Tests.{ltb-true, ltb-false, eqb-true, eqb-false, lt-ltb, eq-eqb, ne-eqb}
-use Rattle.words.proofs.Words.{test}
-use Rattle.error.specs.Answer.{done}
-use Rattle.clock.specs.Order.{less, stampKey, stampLess}
-use Rattle.clock.specs.Hlc.{Hlc, max, sendEvent, receiveL, receiveC, receiveEvent}
-use Rattle.clock.specs.Hybrid.{hlcOf, stampHlc, stampAt, nowCall, issueAt, saturating, updateCall, receiveAt, Event, History, step, run}
-use Rattle.clock.specs.Hybrid.Event.{issue, receive, drift}
+-- That a clock's stamps rise. rs: "Every timestamp it issues is strictly greater than the last one it issued."
+use mathlib.Core.Path.{_≡_}
+use mathlib.Core.Bool.{true}
+use mathlib.Core.List.{List, [], _∷_, List·Memᴰ}
+use Rattle.words.specs.Names.{Time}
+use Rattle.error.specs.Answer.{Answer, done, refused}
+use Rattle.clock.specs.Order.{stampLess}
+use Rattle.clock.specs.Hybrid.{nowCall, updateCall}
 use Rattle.clock.specs.declared.stamp.Timestamp.{Timestamp}
 use Rattle.clock.specs.declared.hybrid.HybridClock.{HybridClock}
 
--- one (l, c) comes before another, or is no later
-abbrev pub Before : Hlc → Hlc → Type 0
-Before a b = (a .l < b .l) ⊎ ((a .l ≡ b .l) × (a .c < b .c))
+-- what may happen to a clock: a stamp is issued at a physical time, a remote stamp is taken in at one, the drift is set
+pub data Event : Type 0 where
+  issue : Time → Event
+  receive : Timestamp → Time → Event
+  drift : Time → Event
 
-abbrev pub UpTo : Hlc → Hlc → Type 0
-UpTo a b = (a .l < b .l) ⊎ ((a .l ≡ b .l) × (a .c ≤ b .c))
+-- a clock with the stamps that it has issued and taken in, the newest first
+pub record History : Type 0 where
+  pub clock : HybridClock
+  pub seen : List Timestamp
 
-up-to-before : (a b e : Hlc) → UpTo a b → Before b e → Before a e
-up-to-before a b e (inl h) (inl k) = inl (omega arith)
-up-to-before a b e (inl h) (inr k) = inl (omega arith)
-up-to-before a b e (inr h) (inl k) = inl (omega arith)
-up-to-before a b e (inr h) (inr k) = inr (omega arith, omega arith)
+abbrev pub withStamp : Answer Timestamp → List Timestamp → List Timestamp
+withStamp (done t) ts = t ∷ ts
+withStamp (refused r) ts = ts
 
-before-up-to : (a b : Hlc) → Before a b → UpTo a b
-before-up-to a b (inl h) = inl h
-before-up-to a b (inr h) = inr (h .0, omega arith)
+abbrev pub withRemote : Answer Unit → Timestamp → List Timestamp → List Timestamp
+withRemote (done u) m ts = m ∷ ts
+withRemote (refused r) m ts = ts
 
--- the greater of two is none below either
-max-least : (a b : ℕ) → (a ≤ max a b) × (b ≤ max a b)
-unfolding max
-max-least a b = elim (test (ltb a b)) [
-  | inl h ↦ rw h (omega (arith, ltb-true a b h), omega arith)
-  | inr h ↦ rw h (omega arith, ltb-false a b h)
-]
+-- a refused event leaves the clock and the stamps
+unfoldable pub step : History → Event → History
+step h (issue pt) =
+    record { clock = nowCall (h .clock) pt .left; seen = withStamp (nowCall (h .clock) pt .answer) (h .seen) }
+step h (receive m pt) =
+    record { clock = updateCall (h .clock) m pt .left; seen = withRemote (updateCall (h .clock) m pt .answer) m (h .seen) }
+step h (drift ms) =
+    record {
+      clock =
+          record {
+            actor = h .clock .actor;
+            «last_wall» = h .clock .«last_wall»;
+            «last_counter» = h .clock .«last_counter»;
+            «max_drift_ms» = ms;
+          };
+      seen = h .seen;
+    }
 
--- sending moves a clock on
-pub send-rises : (j : Hlc) (pt : ℕ) → Before j (sendEvent j pt)
-unfolding sendEvent
-send-rises j pt =
-    let m : ℕ = max (j .l) pt in
-    elim (test (eqb m (j .l))) [
-      | inl h ↦ rw h (inr (sym (eqb-true m (j .l) h), omega arith))
-      | inr h ↦ rw h (inl (omega (arith, eqb-false m (j .l) h, max-least (j .l) pt)))
-    ]
+-- a history after some events, the first first
+unfoldable pub run : History → List Event → History
+run h [] = h
+run h (e ∷ es) = run (step h e) es
 
--- receiving moves a clock on, and past the message
-module _ (j m : Hlc) (pt : ℕ) where
-  walls : (j .l ≤ receiveL j m pt) × (m .l ≤ receiveL j m pt)
-  unfolding receiveL
-  walls = omega (arith, max-least (j .l) (m .l), max-least (max (j .l) (m .l)) pt)
-
-  counter-own : receiveL j m pt ≡ j .l → j .c < receiveC j m (receiveL j m pt)
-  unfolding receiveC
-  counter-own p =
-      let q : eqb (receiveL j m pt) (j .l) ≡ true = eq-eqb _ _ p in
-      elim (test (eqb (receiveL j m pt) (m .l))) [
-        | inl h ↦ rw (q, h) (omega (arith, max-least (j .c) (m .c)))
-        | inr h ↦ rw (q, h) (omega arith)
-      ]
-
-  counter-remote : receiveL j m pt ≡ m .l → m .c < receiveC j m (receiveL j m pt)
-  unfolding receiveC
-  counter-remote p =
-      let q : eqb (receiveL j m pt) (m .l) ≡ true = eq-eqb _ _ p in
-      elim (test (eqb (receiveL j m pt) (j .l))) [
-        | inl h ↦ rw (q, h) (omega (arith, max-least (j .c) (m .c)))
-        | inr h ↦ rw (q, h) (omega arith)
-      ]
-
-  pub receive-rises : Before j (receiveEvent j m pt)
-  unfolding receiveEvent
-  receive-rises =
-      elim (test (eqb (receiveL j m pt) (j .l))) [
-        | inl h ↦ inr (sym (eqb-true _ _ h), counter-own (eqb-true _ _ h))
-        | inr h ↦ inl (omega (arith, eqb-false (receiveL j m pt) (j .l) h, walls))
-      ]
-
-  pub receive-passes : Before m (receiveEvent j m pt)
-  unfolding receiveEvent
-  receive-passes =
-      elim (test (eqb (receiveL j m pt) (m .l))) [
-        | inl h ↦ inr (sym (eqb-true _ _ h), counter-remote (eqb-true _ _ h))
-        | inr h ↦ inl (omega (arith, eqb-false (receiveL j m pt) (m .l) h, walls))
-      ]
-
-lt-eqb : (a b : ℕ) → a < b → eqb a b ≡ false
-lt-eqb a b h = ne-eqb a b (λ e. omega arith)
-
--- what comes before is less as a stamp, whoever the authors are
-pub before-less : (s t : Timestamp) → Before (stampHlc s) (stampHlc t) → stampLess s t ≡ true
-unfolding stampLess stampKey less
-before-less s t (inl h) = rw (lt-eqb (s .«wall_time») (t .«wall_time») h) (lt-ltb _ _ h)
-before-less s t (inr h) =
-    rw (eq-eqb (s .«wall_time») (t .«wall_time») (h .0), lt-eqb (s .«logical_counter») (t .«logical_counter») (h .1)) (lt-ltb _ _ (h .1))
-
--- no stamp of a history is past its clock
-abbrev pub Reached : History → Type 0
-Reached h = (s : Timestamp) → List·Memᴰ s (h .seen) → UpTo (stampHlc s) (hlcOf (h .clock))
-
--- issuing and receiving keep that so, each also where it refuses
-issue-keeps : (h : History) (pt : ℕ) → Reached h → Reached (step h (issue pt))
-unfolding step nowCall issueAt
-issue-keeps h pt r s =
-    let j : Hlc = hlcOf (h .clock) in
-    elim (test (ltb (sendEvent j pt .c) (2 ^ 32))) [
-      | inl e ↦ rw e (λ m. elim (List·Memᴰ·cases-cons m) [
-        | inl p ↦ rw p (inr (refl, omega arith))
-        | inr n ↦ before-up-to _ _ (up-to-before (stampHlc s) j (sendEvent j pt) (r s n) (send-rises j pt))
-      ])
-      | inr e ↦ rw e (r s)
-    ]
-
-receive-keeps : (h : History) (x : Timestamp) (pt : ℕ) → Reached h → Reached (step h (receive x pt))
-unfolding step updateCall receiveAt
-receive-keeps h x pt r s =
-    let j : Hlc = hlcOf (h .clock) in
-    let k : Hlc = receiveEvent j (stampHlc x) pt in
-    elim (test (leb (x .«wall_time») (saturating pt (h .clock .«max_drift_ms»)))) [
-      | inl d ↦
-          elim (test (ltb (k .c) (2 ^ 32))) [
-            | inl e ↦ rw (d, e) (λ m. elim (List·Memᴰ·cases-cons m) [
-              | inl p ↦ rw p (before-up-to _ _ (receive-passes j (stampHlc x) pt))
-              | inr n ↦ before-up-to _ _ (up-to-before (stampHlc s) j k (r s n) (receive-rises j (stampHlc x) pt))
-            ])
-            | inr e ↦ rw (d, e) (r s)
-          ]
-      | inr d ↦ rw d (r s)
-    ]
-
-step-keeps : (h : History) (e : Event) → Reached h → Reached (step h e)
-unfolding step
-step-keeps h (issue pt) r = issue-keeps h pt r
-step-keeps h (receive m pt) r = receive-keeps h m pt r
-step-keeps h (drift ms) r = r
-
--- so it stays, through any events
-pub run-keeps : (h : History) (es : List Event) → Reached h → Reached (run h es)
-unfolding run
-run-keeps h [] r = r
-run-keeps h (e ∷ es) r = run-keeps (step h e) es (step-keeps h e r)
-
--- a stamp is issued at the paper's send event
-issued-at : (j : HybridClock) (pt : ℕ) (t : Timestamp) → nowCall j pt .answer ≡ done t → stampHlc t ≡ sendEvent (hlcOf j) pt
-unfolding nowCall issueAt
-issued-at j pt t =
-    let k : Hlc = sendEvent (hlcOf j) pt in
-    elim (test (ltb (k .c) (2 ^ 32))) [
-      | inl e ↦ rw e (λ a. let q : stampAt j k ≡ t = cc in ap stampHlc (sym q))
-      | inr e ↦ rw e (λ a. let z : _≡_ {A = ℕ} 0 1 = cc in absurd (omega arith))
-    ]
-
--- whatever a clock has issued and taken in, through any events, and whatever the physical time says: the next stamp that it issues is
--- greater than each of them
-pub issued-greater : (j : HybridClock) (es : List Event) (pt : ℕ) (t : Timestamp)
+-- Whatever a clock has issued and taken in, through any events, and whatever the physical time says: the next stamp that it issues is
+-- greater than each of them. Proved in proofs/Monotone.antt.
+abbrev pub IssuedGreater : Type 0
+IssuedGreater =
+    (j : HybridClock) (es : List Event) (pt : Time) (t : Timestamp)
     → nowCall (run (record { clock = j; seen = [] }) es .clock) pt .answer ≡ done t
     → (s : Timestamp) → List·Memᴰ s (run (record { clock = j; seen = [] }) es .seen) → stampLess s t ≡ true
-issued-greater j es pt t a s m =
-    let k : HybridClock = run (record { clock = j; seen = [] }) es .clock in
-    let r : UpTo (stampHlc s) (hlcOf k) = run-keeps (record { clock = j; seen = [] }) es (λ s n. absurd (List·Memᴰ·not-nil n)) s m in
-    let b : Before (stampHlc s) (sendEvent (hlcOf k) pt) = up-to-before (stampHlc s) (hlcOf k) (sendEvent (hlcOf k) pt) r (send-rises (hlcOf k) pt) in
-    before-less s t (subst (λ (e : Hlc). Before (stampHlc s) e) (sym (issued-at k pt t a)) b)

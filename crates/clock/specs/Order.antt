@@ -1,10 +1,9 @@
--- Lexicographic order, and the order of stamps: "rising stamp order (wall, counter, author)". Assumes nothing.
+-- Lexicographic order, and the order of stamps. 01: "rising stamp order (wall, counter, author)".
 use Prim.Native.Nat.{ℕ}
-use mathlib.Core.Bool.{Bool, true, false}
+use mathlib.Core.Bool.{Bool, false}
 use mathlib.Core.List.{List, [], _∷_}
 use lib.Dec.{ltb, eqb}
 use Rattle.words.specs.Choice.{pick}
-use Rattle.stubs.specs.declared.ActorId.{ActorId}
 use Rattle.clock.specs.declared.stamp.Timestamp.{Timestamp}
 use Rattle.clock.specs.declared.stamp.Ordering.{Ordering}
 use Rattle.clock.specs.declared.stamp.Ordering.the-variants.{Less, Equal, Greater}
@@ -15,7 +14,7 @@ less [] ys = false
 less (x ∷ xs) [] = false
 less (x ∷ xs) (y ∷ ys) = pick (eqb x y) (less xs ys) (ltb x y)
 
--- what stamps are compared by
+-- what stamps are compared by. rs: "Ordering is (wall_time, logical_counter, actor_id)."
 unfoldable pub stampKey : Timestamp → List ℕ
 stampKey t = t .«wall_time» ∷ t .«logical_counter» ∷ t .«actor_id» .0 ∷ []
 

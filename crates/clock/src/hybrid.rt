@@ -3,9 +3,10 @@ use crate::stamp::Timestamp;
 use error::Refusal;
 use stubs::ActorId;
 ghost use mathlib.Core.Path.{_≡_};
-ghost use Rattle.error.specs.Answer.{done};
-ghost use Rattle.clock.specs.Hlc.{max, receiveC};
-ghost use Rattle.clock.specs.Hybrid.{hlcOf, stampHlc, newClock, movedTo, stampAt, saturating, issuedOf, nowCall, updatedOf, updateCall};
+ghost use Rattle.error.specs.Answer.{done, ends};
+ghost use Rattle.clock.specs.Hlc.{greater, receiveC};
+ghost use Rattle.clock.specs.Hybrid.{hlcOf, stampHlc, newClock, movedTo, stampOfEvent, issuedOf, nowCall, updatedOf, updateCall};
+ghost use Rattle.words.specs.Choice.{saturating};
 
 // Default bound on how far ahead of local time a remote stamp may be, in milliseconds.
 pub const DEFAULT_MAX_DRIFT_MS: u64 = 60000;
@@ -41,7 +42,7 @@ pub enum Updated {
 
 // The greater of two numbers.
 fn greater(a: u64, b: u64) -> u64
-    ensures { λ r. ⌜ r ≡ max a b ⌝ }
+    ensures { λ r. ⌜ r ≡ greater a b ⌝ }
 {
     if a < b {
         return b;
@@ -100,7 +101,7 @@ impl HybridClock {
 
     // The stamp of that wall time and counter, with the clock moved to it.
     fn issue(self, wall: u64, counter: u32) -> Issued
-        ensures { λ r. ⌜ issuedOf r ≡ record { answer = done (stampAt self (record { l = wall; c = counter })); clock = movedTo self (record { l = wall; c = counter }) } ⌝ }
+        ensures { λ r. ⌜ issuedOf r ≡ ends (done (stampOfEvent self (record { l = wall; c = counter }))) (movedTo self (record { l = wall; c = counter })) ⌝ }
     {
         let actor = self.actor;
         let clock = self.moved(wall, counter);

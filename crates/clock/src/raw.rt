@@ -10,13 +10,13 @@ ghost use mathlib.Core.Bool.{true};
 ghost use Prim.Native.Nat.{_+_, _≤_};
 ghost use lib.ListN.{length, take};
 ghost use Rattle.words.specs.Areas.{putAt};
-ghost use Rattle.error.specs.Answer.{unit};
 ghost use Rattle.clock.specs.Area.{clockAt, clockBytes};
 ghost use Rattle.clock.specs.Entries.{get, put, observe, merge, dominates};
-ghost use Rattle.clock.specs.Rows.{search, putIn, inRows, roomOf};
+ghost use Rattle.clock.specs.inside.Columns.{search, putIn, inColumns, roomOf};
 ghost use Rattle.clock.specs.Vector.{sound, entries, clockOf, grown, changedOf};
+ghost use Rattle.error.specs.Answer.{nothing};
 
-// Where an author stands in a rising row of authors, or where it is to be put.
+// Where an author stands in a rising column of authors, or where it is to be put.
 enum Place {
     Here(usize),
     Gap(usize),
@@ -76,7 +76,7 @@ pub fn get(c: VectorClock, actor: ActorId) -> u64
 // An author's number set to n; refused where that is an author too many.
 pub(crate) fn entered(c: VectorClock, a: u64, n: u64) -> Changed
     requires { ⌜ sound c ≡ true ⌝ }
-    ensures { λ r. ⌜ changedOf r ≡ grown c (put (entries c) a n) unit ⌝ }
+    ensures { λ r. ⌜ changedOf r ≡ grown c (put (entries c) a n) nothing ⌝ }
 {
     let count = c.count;
     let mut authors = c.authors;
@@ -115,7 +115,7 @@ pub(crate) fn entered(c: VectorClock, a: u64, n: u64) -> Changed
     }
 }
 
-// An author's number raised to at least seq, in a clock that is lent as two rows of which `count` places are used.
+// An author's number raised to at least seq, in a clock that is lent as two columns of which `count` places are used.
 pub fn observe_in(
     authors: &mut [u64],
     numbers: &mut [u64],
@@ -123,8 +123,8 @@ pub fn observe_in(
     actor: ActorId,
     seq: u64,
 ) -> Room
-    requires { ⌜ (length (now authors) ≡ 32) × (length (now numbers) ≡ 32) × (sound (inRows (now authors) (now numbers) count) ≡ true) ⌝ }
-    ensures { λ r. ⌜ roomOf (inRows (now (authors .entry)) (now (numbers .entry)) count) (now (authors .exit)) (now (numbers .exit)) r ≡ grown (inRows (now (authors .entry)) (now (numbers .entry)) count) (observe (entries (inRows (now (authors .entry)) (now (numbers .entry)) count)) (actor .0) seq) unit ⌝ }
+    requires { ⌜ (length (now authors) ≡ 32) × (length (now numbers) ≡ 32) × (sound (inColumns (now authors) (now numbers) count) ≡ true) ⌝ }
+    ensures { λ r. ⌜ roomOf (inColumns (now (authors .entry)) (now (numbers .entry)) count) (now (authors .exit)) (now (numbers .exit)) r ≡ grown (inColumns (now (authors .entry)) (now (numbers .entry)) count) (observe (entries (inColumns (now (authors .entry)) (now (numbers .entry)) count)) (actor .0) seq) nothing ⌝ }
 {
     let place = find(authors, count, actor.0);
     match place {
@@ -151,7 +151,7 @@ pub fn observe_in(
 // An author's number raised to at least seq; refused where that is an author too many.
 pub fn observed(c: VectorClock, actor: ActorId, seq: u64) -> Changed
     requires { ⌜ sound c ≡ true ⌝ }
-    ensures { λ r. ⌜ changedOf r ≡ grown c (observe (entries c) (actor .0) seq) unit ⌝ }
+    ensures { λ r. ⌜ changedOf r ≡ grown c (observe (entries c) (actor .0) seq) nothing ⌝ }
 {
     let mut authors = c.authors;
     let mut numbers = c.numbers;
@@ -184,7 +184,7 @@ pub fn observe(c: VectorClock, actor: ActorId, seq: u64) -> VectorClock
 // Observes each entry of d; refused, with c as it was, where the authors are too many.
 pub(crate) fn merged(c: VectorClock, d: VectorClock) -> Changed
     requires { ⌜ (sound c ≡ true) × (sound d ≡ true) ⌝ }
-    ensures { λ r. ⌜ changedOf r ≡ grown c (merge (entries c) (entries d)) unit ⌝ }
+    ensures { λ r. ⌜ changedOf r ≡ grown c (merge (entries c) (entries d)) nothing ⌝ }
 {
     let n = d.count;
     let mut so_far = c;

@@ -6,8 +6,8 @@ ghost use mathlib.Core.Path.{_≡_};
 ghost use mathlib.Core.List.{[]};
 ghost use Prim.Native.Nat.{_≤_};
 ghost use lib.ListN.{length, take, drop};
-ghost use Rattle.clock.specs.Rows.{ascending};
-ghost use Rattle.clock.specs.Vector.{sound, clockOf, zeros, orderOf, getCall, observeCall, incrementCall, Merges, dominatesCall, Compares, numberOf, changedOf, incrementedOf, coverOf};
+ghost use Rattle.clock.specs.inside.Columns.{ascending};
+ghost use Rattle.clock.specs.Vector.{sound, clockOf, zeros, orderOf, getCall, observeCall, incrementCall, Merges, dominatesCall, Compares, numberAnswer, changedOf, incrementedOf, coverOf};
 
 // Authors and their numbers, of which `count` are used: authors strictly rise, unused places are zero.
 pub struct VectorClock {
@@ -139,7 +139,7 @@ impl VectorClock {
 
     // The highest number seen of an author, 0 where it is absent.
     pub fn get(self, actor: ActorId) -> NumberAnswer
-        ensures { λ r. ⌜ numberOf r ≡ getCall self (actor .0) ⌝ }
+        ensures { λ r. ⌜ numberAnswer r ≡ getCall self (actor .0) ⌝ }
     {
         if !self.is_sound() {
             return NumberAnswer::Refused(Refusal::UnsoundStore);

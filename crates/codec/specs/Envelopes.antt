@@ -1,42 +1,39 @@
--- The layout of an Envelope, from src/sync.rs: the sender, the body and the signature, each of these two length first; "Envelopes keep the
--- Rust's limits". Assumes nothing.
-use Prim.Native.Nat.{ℕ, _+_, _^_}
-use mathlib.Core.List.{List, [], _∷_, _++_}
-use lib.ListN.{length, take, drop}
-use Rattle.error.specs.declared.Refusal.{Refusal}
+-- The layout of an Envelope, src/sync.rs: the sender, then body and signature, each length first. 01: "Envelopes keep the Rust's limits."
+use Prim.Native.Nat.{ℕ, _^_}
+use mathlib.Core.List.{_++_}
+use Rattle.words.specs.Names.{Author, Bytes}
 use Rattle.error.specs.Answer.{Answer, done, refused, andThen, Got, got, bad, after}
-use Rattle.stubs.specs.declared.ActorId.{ActorId}
 use Rattle.codec.specs.Leb128.{shortest}
 use Rattle.codec.specs.Reading.{getVarint, getBytes, finish, Part}
 use Rattle.codec.specs.Writing.{sized}
 use Rattle.codec.specs.declared.EnvelopeRead.{EnvelopeRead}
 use Rattle.codec.specs.declared.EnvelopeRead.the-variants as read
 
--- MAX_FRAME
+-- rs: "MAX_FRAME: usize = 1 << 24"
 abbrev pub maxFrame : ℕ
-maxFrame = 16777216
+maxFrame = 2 ^ 24
 
--- MAX_SIGNATURE
+-- rs: "MAX_SIGNATURE: usize = 1024"
 abbrev pub maxSignature : ℕ
 maxSignature = 1024
 
 -- Envelope::encode
-unfoldable pub envelope : ℕ → List ℕ → List ℕ → List ℕ
+unfoldable pub envelope : Author → (body sig : Bytes) → Bytes
 envelope sender body sig = shortest sender ++ (sized body ++ sized sig)
 
 -- an envelope that was read: the sender, and where body and signature stand
 pub record Envelope : Type 0 where
-  pub sender : ℕ
+  pub sender : Author
   pub body : Part
   pub sig : Part
 
 -- the end of a reading: nothing may remain
-abbrev pub closed : {A : Type 0} → List ℕ → Got A → Answer A
+abbrev pub closed : {A : Type 0} → Bytes → Got A → Answer A
 closed s (got a next) = andThen (finish s next) (λ at. done a)
 closed s (bad r) = refused r
 
 -- Envelope::decode
-unfoldable pub readEnvelope : List ℕ → Answer Envelope
+unfoldable pub readEnvelope : Bytes → Answer Envelope
 readEnvelope s =
     closed s
     (after (getVarint s 0) (λ sender at.

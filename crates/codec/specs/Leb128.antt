@@ -1,36 +1,37 @@
--- Unsigned LEB128, from DWARF 5, section 7.6: a number is cut into groups of seven bits, the least significant first, each
--- in the low bits of a byte whose high bit is set on all but the last. Assumes nothing.
+-- Unsigned LEB128, from DWARF 5, section 7.6: a number is cut into groups of seven bits, the least significant first, each in the low bits of
+-- a byte whose high bit is set on all but the last. 01: "Varints go out seven bits to a byte, lowest first, at most ten bytes".
 use Prim.Native.Nat.{ℕ, zero, suc, _+_, _*_, _/_, _%_, _^_}
 use mathlib.Core.Bool.{Bool, true, false}
-use mathlib.Core.List.{List, [], _∷_}
+use mathlib.Core.List.{[], _∷_}
 use lib.Dec.{ltb}
+use Rattle.words.specs.Names.{Bytes}
 use Rattle.words.specs.Choice.{pick}
 
 -- the bytes of one number: up to and with the first whose high bit is clear; all where there is none
-unfoldable pub groups : List ℕ → List ℕ
+unfoldable pub groups : Bytes → Bytes
 groups [] = []
 groups (b ∷ bs) = b ∷ pick (ltb b 128) [] (groups bs)
 
 -- some byte has its high bit clear: the number ends
-unfoldable pub ends : List ℕ → Bool
-ends [] = false
-ends (b ∷ bs) = pick (ltb b 128) true (ends bs)
+unfoldable pub hasLast : Bytes → Bool
+hasLast [] = false
+hasLast (b ∷ bs) = pick (ltb b 128) true (hasLast bs)
 
 -- the value of a sequence: the sum of its groups, the first at bit k, each next one seven bits higher
-unfoldable pub valueOf : ℕ → List ℕ → ℕ
+unfoldable pub valueOf : ℕ → Bytes → ℕ
 valueOf k [] = 0
 valueOf k (b ∷ bs) = b % 128 * 2 ^ k + valueOf (k + 7) bs
 
--- one group of v, with the sign that more follow where they do
-unfoldable pub groupsBy : Bool → ℕ → (ℕ → List ℕ) → List ℕ
-groupsBy true v rest = v ∷ []
-groupsBy false v rest = (v % 128 + 128) ∷ rest (v / 128)
+-- v where it is the last group, else its lowest group with the sign that more follow, and the rest. (By clauses, so that no rest is computed behind the last)
+unfoldable pub groupThen : (last : Bool) → ℕ → (ℕ → Bytes) → Bytes
+groupThen true v rest = v ∷ []
+groupThen false v rest = (v % 128 + 128) ∷ rest (v / 128)
 
 -- the groups of v, where at most n follow the first
-unfoldable pub groupsOf : ℕ → ℕ → List ℕ
+unfoldable pub groupsOf : (n v : ℕ) → Bytes
 groupsOf zero v = v % 128 ∷ []
-groupsOf (suc n) v = groupsBy (ltb v 128) v (λ w. groupsOf n w)
+groupsOf (suc n) v = groupThen (ltb v 128) v (λ w. groupsOf n w)
 
 -- the shortest sequence of v: no group is left out, and no group above the highest bit is added. (v groups are always enough)
-unfoldable pub shortest : ℕ → List ℕ
+unfoldable pub shortest : ℕ → Bytes
 shortest v = groupsOf v v

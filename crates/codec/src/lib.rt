@@ -11,9 +11,10 @@ ghost use lib.ListN.{length};
 ghost use lib.Dec.{ltb};
 ghost use Rattle.codec.specs.Leb128.{shortest};
 ghost use Rattle.codec.specs.Reading.{getU8, getVarint, getU32, getCount, getBytes, finish, gotNumber, gotPart, finishedAt};
-ghost use Rattle.codec.specs.Writing.{Writes, writtenOf, sized};
+ghost use Rattle.codec.specs.Writing.{writeCall, writtenOf, sized};
 ghost use Rattle.codec.specs.Envelopes.{envelope, readEnvelope, envelopeOf};
-ghost use Rattle.codec.specs.Parts.{room, envelopeLength, Stored, readParts};
+ghost use Rattle.codec.specs.inside.EnvelopeParts.{room, envelopeLength, Stored, readParts};
+ghost use Rattle.error.specs.Answer.{ends};
 
 // Largest accepted frame or body, in bytes.
 pub const MAX_FRAME: u64 = 16777216;
@@ -70,7 +71,7 @@ pub fn varint_len(v: u64) -> usize
 
 // Writes the shortest varint of v at `at`.
 pub fn put_varint(out: &mut [u8], at: usize, v: u64) -> Written
-    ensures { λ r. ⌜ Writes (now (out .entry)) at (shortest v) r (now (out .exit)) ⌝ }
+    ensures { λ r. ⌜ ends (writtenOf r) (now (out .exit)) ≡ writeCall (now (out .entry)) at (shortest v) ⌝ }
 {
     let end = raw::past(out.len(), at, varint_len(v));
     match end {
@@ -81,7 +82,7 @@ pub fn put_varint(out: &mut [u8], at: usize, v: u64) -> Written
 
 // Writes one byte at `at`.
 pub fn put_u8(out: &mut [u8], at: usize, b: u8) -> Written
-    ensures { λ r. ⌜ Writes (now (out .entry)) at (b ∷ []) r (now (out .exit)) ⌝ }
+    ensures { λ r. ⌜ ends (writtenOf r) (now (out .exit)) ≡ writeCall (now (out .entry)) at (b ∷ []) ⌝ }
 {
     if at >= out.len() {
         return Written::Refused(Refusal::ShortArea);
@@ -92,7 +93,7 @@ pub fn put_u8(out: &mut [u8], at: usize, b: u8) -> Written
 
 // Writes `bytes` at `at`, length first.
 pub fn put_bytes(out: &mut [u8], at: usize, bytes: &[u8]) -> Written
-    ensures { λ r. ⌜ Writes (now (out .entry)) at (sized (now (bytes .entry))) r (now (out .exit)) ⌝ }
+    ensures { λ r. ⌜ ends (writtenOf r) (now (out .exit)) ≡ writeCall (now (out .entry)) at (sized (now (bytes .entry))) ⌝ }
 {
     let end = raw::past_sized(out.len(), at, bytes.len());
     match end {
@@ -258,7 +259,7 @@ fn store_envelope(out: &mut [u8], sender: ActorId, body: &[u8], sig: &[u8]) -> u
 
 // Writes an envelope at the start of `out`.
 pub fn encode_envelope(out: &mut [u8], sender: ActorId, body: &[u8], sig: &[u8]) -> Written
-    ensures { λ r. ⌜ Writes (now (out .entry)) 0 (envelope (sender .0) (now (body .entry)) (now (sig .entry))) r (now (out .exit)) ⌝ }
+    ensures { λ r. ⌜ ends (writtenOf r) (now (out .exit)) ≡ writeCall (now (out .entry)) 0 (envelope (sender .0) (now (body .entry)) (now (sig .entry))) ⌝ }
 {
     let end = past_envelope(out.len(), sender, body.len(), sig.len());
     match end {

@@ -13,10 +13,10 @@ ghost use lib.ListN.{length};
 ghost use denote.Ref.{ptr};
 ghost use Rattle.codec.specs.Leb128.{shortest};
 ghost use Rattle.codec.specs.Writing.{writtenOf, sized};
-ghost use Rattle.codec.specs.Parts.{room, sizedLength, Stored};
+ghost use Rattle.codec.specs.inside.EnvelopeParts.{room, sizedLength, Stored, Within, envelopeBy};
 ghost use Rattle.codec.specs.Reading.{gotNumber, gotPart, finishedAt};
 ghost use Rattle.codec.specs.Envelopes.{envelopeOf};
-ghost use Rattle.codec.specs.Readers.{partPlace, past, Within, partIn, envelopeBy};
+ghost use Rattle.codec.specs.Readers.{partPlace, pastRead, partIn};
 
 // The low seven bits of a number: the last byte of its varint.
 fn low7(v: u64) -> u8
@@ -84,7 +84,7 @@ pub fn past_sized(len: usize, at: usize, n: usize) -> Written
 
 // The position past a number that was read, `at` where it was refused.
 pub fn past_number(read: NumberRead, at: usize) -> usize
-    ensures { λ r. ⌜ r ≡ past at (gotNumber read) ⌝ }
+    ensures { λ r. ⌜ r ≡ pastRead at (gotNumber read) ⌝ }
 {
     match read {
         NumberRead::Value { value: _, next } => next,
@@ -94,7 +94,7 @@ pub fn past_number(read: NumberRead, at: usize) -> usize
 
 // The position past a part that was read, `at` where it was refused.
 pub fn past_part(read: PartRead, at: usize) -> usize
-    ensures { λ r. ⌜ r ≡ past at (gotPart read) ⌝ }
+    ensures { λ r. ⌜ r ≡ pastRead at (gotPart read) ⌝ }
 {
     match read {
         PartRead::Part {

@@ -1,5 +1,5 @@
-pub mod Lines
-pub mod Telling
-pub mod Running
-pub mod Moving
-pub mod Places
+pub mod RowFate
+pub mod ReportLines
+pub mod LogLoop
+pub mod SlotWrites
+pub mod HeldSlots

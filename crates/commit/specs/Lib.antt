@@ -1,2 +1,1 @@
-pub mod Slots
-pub mod Promises
+pub mod inside

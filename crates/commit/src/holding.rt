@@ -12,8 +12,8 @@ ghost use Prim.Native.Nat.{_*_, _≤_, _<_};
 ghost use lib.ListN.{length};
 ghost use Rattle.row.specs.Slots.{slotAt, encodeHeld};
 ghost use Rattle.row.specs.Reading.{readRow};
-ghost use Rattle.working.specs.Refs.{isRead, arrivedBy};
-ghost use Rattle.commit.specs.Slots.{SlotSet, SlotsRise, Gathered, BatchRefs, Spread, heldBefore};
+ghost use Rattle.working.specs.inside.References.{isRead, arrivedBy};
+ghost use Rattle.commit.specs.inside.HeldSlots.{SlotSet, SlotsRise, Gathered, BatchRefs, Spread, heldBefore};
 
 // Copies slot `from` down to slot `to`.
 fn slot_down(held: &mut [u8], from: usize, to: usize)

@@ -1,17 +1,14 @@
--- The batch call as numbers. Assumes nothing.
+-- The settings and the answer of the exported batch call as numbers.
 use Prim.Native.Nat.{ℕ}
-use mathlib.Core.Path.{_≡_}
-use mathlib.Core.List.{List}
+use Rattle.words.specs.Names.{Time}
 use Rattle.error.specs.Numbers.{toldOf}
-use Rattle.error.specs.Answer.{Answer, done, refused}
+use Rattle.error.specs.Answer.{Answer, done, refused, accepted}
 use Rattle.merging.specs.Batch.{Limits}
 use Rattle.merging.specs.Merging.{Report}
-use Rattle.merging.specs.Calls.{Batched}
-use Rattle.cuwelfra.specs.Bytes.{accepted}
 use Rattle.cuwelfra.specs.declared.batches.MergeTold.{MergeTold}
 
--- the settings, in MergeLimits' order
-abbrev pub limitsBy : ℕ → ℕ → ℕ → ℕ → ℕ → ℕ → ℕ → Limits
+-- the settings, in the order of MergeLimits
+abbrev pub limitsBy : (pending perActor bytes : ℕ) → (age drift : Time) → (deps payload : ℕ) → Limits
 limitsBy pending perActor bytes age drift deps payload =
     record {
       maxPending = pending;
@@ -38,12 +35,3 @@ mergeTold (done r) =
     }
 mergeTold (refused r) =
     record { told = toldOf r; applied = 0; stale = 0; rejected = 0; duplicates = 0; held = 0; expired = 0; dropped = 0 }
-
--- the answer and every lent byte afterwards
-pub record BatchTold (call : Batched) (r : MergeTold) (log held head scratch output : List ℕ) : Type 0 where
-  pub answer-is : r ≡ mergeTold (call .answer)
-  pub log-is : log ≡ call .areas .log
-  pub held-is : held ≡ call .areas .held
-  pub head-is : head ≡ call .areas .head
-  pub scratch-is : scratch ≡ call .scratch
-  pub output-is : output ≡ call .output

@@ -1,24 +1,21 @@
--- The answers of the exported hybrid clock calls as numbers; in a refusal the clock comes back as it was. Assumes nothing.
+-- The answers of the exported hybrid clock calls as numbers; in a refusal the clock comes back as it was.
 use Prim.Native.Nat.{ℕ}
-use Rattle.stubs.specs.declared.ActorId.{ActorId}
-use Rattle.error.specs.declared.Refusal.{Refusal}
-use Rattle.error.specs.Numbers.{toldOf}
-use Rattle.error.specs.Answer.{Answer, done, refused, Unit, unit, toldBy}
+use Rattle.words.specs.Names.{Author, Time}
+use Rattle.error.specs.Answer.{Answer, done, refused, toldBy, Ends}
 use Rattle.clock.specs.declared.stamp.Timestamp.{Timestamp}
 use Rattle.clock.specs.declared.stamp.Ordering.{Ordering}
 use Rattle.clock.specs.declared.stamp.Ordering.the-variants.{Less, Equal, Greater}
 use Rattle.clock.specs.declared.hybrid.HybridClock.{HybridClock}
-use Rattle.clock.specs.Hybrid.{Moved}
 use Rattle.cuwelfra.specs.declared.hybrid.HybridTold.{HybridTold}
 use Rattle.cuwelfra.specs.declared.hybrid.IssuedTold.{IssuedTold}
 use Rattle.cuwelfra.specs.declared.hybrid.UpdatedTold.{UpdatedTold}
 
 -- a clock and a stamp from their numbers
-abbrev pub clockBy : ℕ → ℕ → ℕ → ℕ → HybridClock
+abbrev pub clockBy : Author → (wall : Time) → (counter : ℕ) → (drift : Time) → HybridClock
 clockBy actor wall counter drift =
     record { actor = record { 0 = actor }; «last_wall» = wall; «last_counter» = counter; «max_drift_ms» = drift }
 
-abbrev pub stampBy : ℕ → ℕ → ℕ → Timestamp
+abbrev pub stampBy : (wall : Time) → (counter : ℕ) → Author → Timestamp
 stampBy wall counter actor = record { «wall_time» = wall; «logical_counter» = counter; «actor_id» = record { 0 = actor } }
 
 -- 0 less, 1 equal, 2 greater
@@ -44,16 +41,16 @@ abbrev pub actorOf : Answer Timestamp → ℕ
 actorOf (done t) = t .«actor_id» .0
 actorOf (refused r) = 0
 
-abbrev pub issuedTold : Moved Timestamp → IssuedTold
+abbrev pub issuedTold : Ends Timestamp HybridClock → IssuedTold
 issuedTold m =
     record {
       told = toldBy (m .answer);
       «wall_time» = wallOf (m .answer);
       «logical_counter» = counterOf (m .answer);
       «actor_id» = actorOf (m .answer);
-      «last_wall» = m .clock .«last_wall»;
-      «last_counter» = m .clock .«last_counter»;
+      «last_wall» = m .left .«last_wall»;
+      «last_counter» = m .left .«last_counter»;
     }
 
-abbrev pub updatedTold : Moved Unit → UpdatedTold
-updatedTold m = record { told = toldBy (m .answer); «last_wall» = m .clock .«last_wall»; «last_counter» = m .clock .«last_counter» }
+abbrev pub updatedTold : Ends Unit HybridClock → UpdatedTold
+updatedTold m = record { told = toldBy (m .answer); «last_wall» = m .left .«last_wall»; «last_counter» = m .left .«last_counter» }

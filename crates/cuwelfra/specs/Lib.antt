@@ -1,4 +1,5 @@
 pub mod Abi
+pub mod Exports
 pub mod Bytes
 pub mod Hybrids
 pub mod Vectors

@@ -3,12 +3,13 @@ use batch::MergeLimits;
 use error::Told;
 use merge::Applied;
 ghost use mathlib.Core.Path.{_≡_};
+ghost use Rattle.error.specs.Answer.{toldBy};
 ghost use Rattle.log.specs.Areas.{areas};
 ghost use Rattle.merging.specs.Calls.{batchCall, setFloorCall};
-ghost use Rattle.merge.specs.Promises.{appliedOf};
 ghost use Rattle.cuwelfra.specs.Hybrids.{stampBy};
-ghost use Rattle.cuwelfra.specs.Stores.{LeavesTold};
-ghost use Rattle.cuwelfra.specs.Batches.{limitsBy, mergeTold, BatchTold};
+ghost use Rattle.cuwelfra.specs.Exports.{exported};
+ghost use Rattle.cuwelfra.specs.Batches.{limitsBy, mergeTold};
+ghost use Rattle.merge.specs.Reports.{appliedOf};
 
 // The refusal, or the counts of an accepted batch.
 #[repr(C)]
@@ -61,14 +62,14 @@ pub extern "C" fn cuwelfra_apply_remote_ops(
     max_deps: u64,
     max_payload: u64,
     time_ms: u64,
-    rows: &mut [u8],
+    log: &mut [u8],
     held: &mut [u8],
     head: &mut [u8],
     batch: &[u8],
     scratch: &mut [u8],
     output: &mut [u8],
 ) -> MergeTold
-    ensures { λ r. ⌜ BatchTold (batchCall (areas (now (rows .entry)) (now (held .entry)) (now (head .entry))) (limitsBy «max_pending» «max_pending_per_actor» «max_pending_bytes» «max_pending_age_ms» «max_drift_ms» «max_deps» «max_payload») «time_ms» (now (batch .entry)) (now (scratch .entry)) (now (output .entry))) r (now (rows .exit)) (now (held .exit)) (now (head .exit)) (now (scratch .exit)) (now (output .exit)) ⌝ }
+    ensures { λ r. ⌜ (r, record { areas = areas (now (log .exit)) (now (held .exit)) (now (head .exit)); scratch = now (scratch .exit); output = now (output .exit) }) ≡ exported mergeTold (batchCall (areas (now (log .entry)) (now (held .entry)) (now (head .entry))) (record { limits = limitsBy «max_pending» «max_pending_per_actor» «max_pending_bytes» «max_pending_age_ms» «max_drift_ms» «max_deps» «max_payload»; time = «time_ms»; batch = now (batch .entry); scratch = now (scratch .entry); output = now (output .entry) })) ⌝ }
 {
     let limits = MergeLimits {
         max_pending: max_pending,
@@ -82,7 +83,7 @@ pub extern "C" fn cuwelfra_apply_remote_ops(
     merge_told(merge::call::apply_remote_ops(
         limits,
         time_ms,
-        rows,
+        log,
         held,
         head,
         batch,
@@ -94,15 +95,15 @@ pub extern "C" fn cuwelfra_apply_remote_ops(
 // Raises the floor to a stamp; it never lowers it.
 #[no_mangle]
 pub extern "C" fn cuwelfra_set_floor(
-    rows: &[u8],
+    log: &[u8],
     held: &[u8],
     head: &mut [u8],
     wall_time: u64,
     logical_counter: u32,
     actor_id: u64,
 ) -> Told
-    ensures { λ r. ⌜ LeavesTold (setFloorCall (areas (now (rows .entry)) (now (held .entry)) (now (head .entry))) (stampBy «wall_time» «logical_counter» «actor_id»)) r (now (rows .entry)) (now (held .entry)) (now (head .exit)) ⌝ }
+    ensures { λ r. ⌜ (r, areas (now (log .entry)) (now (held .entry)) (now (head .exit))) ≡ exported toldBy (setFloorCall (areas (now (log .entry)) (now (held .entry)) (now (head .entry))) (stampBy «wall_time» «logical_counter» «actor_id»)) ⌝ }
 {
     let stamp = crate::hybrid::stamp_by(wall_time, logical_counter, actor_id);
-    crate::store::outcome_told(merge::floor::set_floor(rows, held, head, stamp))
+    crate::store::outcome_told(merge::floor::set_floor(log, held, head, stamp))
 }

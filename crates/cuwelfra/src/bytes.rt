@@ -10,12 +10,13 @@ ghost use mathlib.Core.Path.{_≡_};
 ghost use mathlib.Core.List.{[], _∷_};
 ghost use Prim.Native.Nat.{_-_};
 ghost use lib.ListN.{length};
-ghost use Rattle.error.specs.Answer.{toldBy};
+ghost use Rattle.error.specs.Answer.{accepted, toldBy};
 ghost use Rattle.codec.specs.Leb128.{shortest};
 ghost use Rattle.codec.specs.Reading.{getU8, getVarint, getU32, getCount, getBytes, finish, gotNumber, gotPart, finishedAt};
-ghost use Rattle.codec.specs.Writing.{sized, writtenOf};
+ghost use Rattle.codec.specs.Writing.{sized, writeCall, writtenOf};
 ghost use Rattle.codec.specs.Envelopes.{envelope, readEnvelope, envelopeOf};
-ghost use Rattle.cuwelfra.specs.Bytes.{accepted, numberTold, partTold, writtenTold, envelopeTold, WritesTold};
+ghost use Rattle.cuwelfra.specs.Bytes.{numberTold, partTold, writtenTold, envelopeTold};
+ghost use Rattle.cuwelfra.specs.Exports.{exported};
 
 #[repr(C)]
 pub struct NumberTold {
@@ -120,21 +121,21 @@ pub extern "C" fn cuwelfra_varint_len(v: u64) -> usize
 
 #[no_mangle]
 pub extern "C" fn cuwelfra_put_varint(out: &mut [u8], at: usize, v: u64) -> WrittenTold
-    ensures { λ r. ⌜ WritesTold (now (out .entry)) at (shortest v) r (now (out .exit)) ⌝ }
+    ensures { λ r. ⌜ (r, now (out .exit)) ≡ exported writtenTold (writeCall (now (out .entry)) at (shortest v)) ⌝ }
 {
     written(codec::put_varint(out, at, v))
 }
 
 #[no_mangle]
 pub extern "C" fn cuwelfra_put_u8(out: &mut [u8], at: usize, b: u8) -> WrittenTold
-    ensures { λ r. ⌜ WritesTold (now (out .entry)) at (b ∷ []) r (now (out .exit)) ⌝ }
+    ensures { λ r. ⌜ (r, now (out .exit)) ≡ exported writtenTold (writeCall (now (out .entry)) at (b ∷ [])) ⌝ }
 {
     written(codec::put_u8(out, at, b))
 }
 
 #[no_mangle]
 pub extern "C" fn cuwelfra_put_bytes(out: &mut [u8], at: usize, bytes: &[u8]) -> WrittenTold
-    ensures { λ r. ⌜ WritesTold (now (out .entry)) at (sized (now (bytes .entry))) r (now (out .exit)) ⌝ }
+    ensures { λ r. ⌜ (r, now (out .exit)) ≡ exported writtenTold (writeCall (now (out .entry)) at (sized (now (bytes .entry)))) ⌝ }
 {
     written(codec::put_bytes(out, at, bytes))
 }
@@ -200,7 +201,7 @@ pub extern "C" fn cuwelfra_encode_envelope(
     body: &[u8],
     sig: &[u8],
 ) -> WrittenTold
-    ensures { λ r. ⌜ WritesTold (now (out .entry)) 0 (envelope sender (now (body .entry)) (now (sig .entry))) r (now (out .exit)) ⌝ }
+    ensures { λ r. ⌜ (r, now (out .exit)) ≡ exported writtenTold (writeCall (now (out .entry)) 0 (envelope sender (now (body .entry)) (now (sig .entry)))) ⌝ }
 {
     written(codec::encode_envelope(out, ActorId(sender), body, sig))
 }

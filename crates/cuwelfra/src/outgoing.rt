@@ -5,39 +5,41 @@ ghost use mathlib.Core.Path.{_≡_};
 ghost use Rattle.log.specs.Areas.{areas};
 ghost use Rattle.gc.specs.Cutoff.{cutoffCall};
 ghost use Rattle.sync.specs.Delta.{deltaCall, chunkCall};
-ghost use Rattle.cuwelfra.specs.Stores.{stampTold, ListsTold};
+ghost use Rattle.cuwelfra.specs.Stores.{stampTold};
+ghost use Rattle.cuwelfra.specs.Vectors.{countTold};
+ghost use Rattle.cuwelfra.specs.Exports.{exported};
 
 // The latest stamp that is safe to compact to, for a frontier in a clock area.
 #[no_mangle]
 pub extern "C" fn cuwelfra_cutoff(
-    rows: &[u8],
+    log: &[u8],
     held: &[u8],
     head: &[u8],
     frontier: &[u8],
 ) -> StampTold
-    ensures { λ r. ⌜ r ≡ stampTold (cutoffCall (areas (now (rows .entry)) (now (held .entry)) (now (head .entry))) (now (frontier .entry))) ⌝ }
+    ensures { λ r. ⌜ r ≡ stampTold (cutoffCall (areas (now (log .entry)) (now (held .entry)) (now (head .entry))) (now (frontier .entry))) ⌝ }
 {
-    crate::store::stamp_told(gc::cutoff(rows, held, head, frontier))
+    crate::store::stamp_told(gc::cutoff(log, held, head, frontier))
 }
 
 // The log positions that a peer lacks.
 #[no_mangle]
 pub extern "C" fn cuwelfra_calculate_delta(
-    rows: &[u8],
+    log: &[u8],
     held: &[u8],
     head: &[u8],
     peer: &[u8],
     output: &mut [u8],
 ) -> ClockTold
-    ensures { λ r. ⌜ ListsTold (deltaCall (areas (now (rows .entry)) (now (held .entry)) (now (head .entry))) (now (peer .entry)) (now (output .entry))) r (now (output .exit)) ⌝ }
+    ensures { λ r. ⌜ (r, now (output .exit)) ≡ exported countTold (deltaCall (areas (now (log .entry)) (now (held .entry)) (now (head .entry))) (now (peer .entry)) (now (output .entry))) ⌝ }
 {
-    crate::vector::clock_told(sync::calculate_delta(rows, held, head, peer, output))
+    crate::vector::clock_told(sync::calculate_delta(log, held, head, peer, output))
 }
 
 // The row counts of the chunks of that delta.
 #[no_mangle]
 pub extern "C" fn cuwelfra_chunk_ops(
-    rows: &[u8],
+    log: &[u8],
     held: &[u8],
     head: &[u8],
     peer: &[u8],
@@ -45,10 +47,10 @@ pub extern "C" fn cuwelfra_chunk_ops(
     max_bytes: u64,
     output: &mut [u8],
 ) -> ClockTold
-    ensures { λ r. ⌜ ListsTold (chunkCall (areas (now (rows .entry)) (now (held .entry)) (now (head .entry))) (now (peer .entry)) «max_per_chunk» «max_bytes» (now (output .entry))) r (now (output .exit)) ⌝ }
+    ensures { λ r. ⌜ (r, now (output .exit)) ≡ exported countTold (chunkCall (areas (now (log .entry)) (now (held .entry)) (now (head .entry))) (now (peer .entry)) «max_per_chunk» «max_bytes» (now (output .entry))) ⌝ }
 {
     crate::vector::clock_told(sync::chunk_ops(
-        rows,
+        log,
         held,
         head,
         peer,

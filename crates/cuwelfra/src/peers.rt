@@ -8,14 +8,15 @@ use peer::Peer;
 use peer::PeerAnswer;
 use stubs::ActorId;
 ghost use mathlib.Core.Path.{_≡_};
-ghost use mathlib.Core.Bool.{true};
 ghost use Prim.Native.Nat.{_≤_};
 ghost use lib.ListN.{length};
-ghost use Rattle.peer.specs.Peers.{calledOf};
-ghost use Rattle.peer.specs.Area.{stateOk};
+ghost use Rattle.error.specs.Answer.{toldBy};
+ghost use Rattle.peer.specs.Peers.{answerOf};
+ghost use Rattle.peer.specs.Area.{peerBytes, stateOk};
 ghost use Rattle.log.specs.Areas.{areas};
-ghost use Rattle.cuwelfra.specs.Vectors.{clockTold, Keeps};
-ghost use Rattle.cuwelfra.specs.Peers.{onPeer, newPeerArea, startedArea, lostArea, absorbArea, replaceArea, recordPingArea, takePongArea, rebaseArea, pendingOpsArea};
+ghost use Rattle.cuwelfra.specs.Vectors.{countTold};
+ghost use Rattle.cuwelfra.specs.Exports.{exported, writtenBack};
+ghost use Rattle.cuwelfra.specs.Peers.{newPeerArea, startedArea, lostArea, absorbArea, replaceArea, recordPingArea, takePongArea, rebaseArea, pendingOpsArea};
 
 // Whether the state's number is one of the four.
 fn is_state(area: &[u8]) -> bool
@@ -28,7 +29,7 @@ fn is_state(area: &[u8]) -> bool
 // Writes the changed record back; a refused one is left.
 fn keep_peer(area: &mut [u8], r: PeerAnswer) -> Told
     requires { ⌜ 704 ≤ length (now area) ⌝ }
-    ensures { λ t. ⌜ Keeps (onPeer true (now (area .entry)) (calledOf r)) t (now (area .exit)) ⌝ }
+    ensures { λ t. ⌜ (t, now (area .exit)) ≡ exported toldBy (writtenBack peerBytes (now (area .entry)) (answerOf r)) ⌝ }
 {
     let outcome = r.outcome;
     match outcome {
@@ -44,7 +45,7 @@ fn keep_peer(area: &mut [u8], r: PeerAnswer) -> Told
 // Makes the area the record of a new peer.
 #[no_mangle]
 pub extern "C" fn cuwelfra_peer_new(area: &mut [u8], id: u64) -> Told
-    ensures { λ r. ⌜ Keeps (newPeerArea (now (area .entry)) id) r (now (area .exit)) ⌝ }
+    ensures { λ r. ⌜ (r, now (area .exit)) ≡ exported toldBy (newPeerArea (now (area .entry)) id) ⌝ }
 {
     if area.len() < 704 {
         return error::tell(Refusal::ShortArea);
@@ -55,7 +56,7 @@ pub extern "C" fn cuwelfra_peer_new(area: &mut [u8], id: u64) -> Told
 
 #[no_mangle]
 pub extern "C" fn cuwelfra_peer_connection_started(area: &mut [u8], ms: u64) -> Told
-    ensures { λ r. ⌜ Keeps (startedArea (now (area .entry)) ms) r (now (area .exit)) ⌝ }
+    ensures { λ r. ⌜ (r, now (area .exit)) ≡ exported toldBy (startedArea (now (area .entry)) ms) ⌝ }
 {
     if area.len() < 704 {
         return error::tell(Refusal::ShortArea);
@@ -69,7 +70,7 @@ pub extern "C" fn cuwelfra_peer_connection_started(area: &mut [u8], ms: u64) -> 
 
 #[no_mangle]
 pub extern "C" fn cuwelfra_peer_connection_lost(area: &mut [u8]) -> Told
-    ensures { λ r. ⌜ Keeps (lostArea (now (area .entry))) r (now (area .exit)) ⌝ }
+    ensures { λ r. ⌜ (r, now (area .exit)) ≡ exported toldBy (lostArea (now (area .entry))) ⌝ }
 {
     if area.len() < 704 {
         return error::tell(Refusal::ShortArea);
@@ -83,7 +84,7 @@ pub extern "C" fn cuwelfra_peer_connection_lost(area: &mut [u8]) -> Told
 
 #[no_mangle]
 pub extern "C" fn cuwelfra_peer_absorb_clock(area: &mut [u8], clock: &[u8]) -> Told
-    ensures { λ r. ⌜ Keeps (absorbArea (now (area .entry)) (now (clock .entry))) r (now (area .exit)) ⌝ }
+    ensures { λ r. ⌜ (r, now (area .exit)) ≡ exported toldBy (absorbArea (now (area .entry)) (now (clock .entry))) ⌝ }
 {
     if area.len() < 704 {
         return error::tell(Refusal::ShortArea);
@@ -101,7 +102,7 @@ pub extern "C" fn cuwelfra_peer_absorb_clock(area: &mut [u8], clock: &[u8]) -> T
 
 #[no_mangle]
 pub extern "C" fn cuwelfra_peer_replace_clock(area: &mut [u8], clock: &[u8]) -> Told
-    ensures { λ r. ⌜ Keeps (replaceArea (now (area .entry)) (now (clock .entry))) r (now (area .exit)) ⌝ }
+    ensures { λ r. ⌜ (r, now (area .exit)) ≡ exported toldBy (replaceArea (now (area .entry)) (now (clock .entry))) ⌝ }
 {
     if area.len() < 704 {
         return error::tell(Refusal::ShortArea);
@@ -119,7 +120,7 @@ pub extern "C" fn cuwelfra_peer_replace_clock(area: &mut [u8], clock: &[u8]) -> 
 
 #[no_mangle]
 pub extern "C" fn cuwelfra_peer_record_ping(area: &mut [u8], ms: u64) -> Told
-    ensures { λ r. ⌜ Keeps (recordPingArea (now (area .entry)) ms) r (now (area .exit)) ⌝ }
+    ensures { λ r. ⌜ (r, now (area .exit)) ≡ exported toldBy (recordPingArea (now (area .entry)) ms) ⌝ }
 {
     if area.len() < 704 {
         return error::tell(Refusal::ShortArea);
@@ -133,7 +134,7 @@ pub extern "C" fn cuwelfra_peer_record_ping(area: &mut [u8], ms: u64) -> Told
 
 #[no_mangle]
 pub extern "C" fn cuwelfra_peer_take_pong(area: &mut [u8], nonce: u64) -> Told
-    ensures { λ r. ⌜ Keeps (takePongArea (now (area .entry)) nonce) r (now (area .exit)) ⌝ }
+    ensures { λ r. ⌜ (r, now (area .exit)) ≡ exported toldBy (takePongArea (now (area .entry)) nonce) ⌝ }
 {
     if area.len() < 704 {
         return error::tell(Refusal::ShortArea);
@@ -147,7 +148,7 @@ pub extern "C" fn cuwelfra_peer_take_pong(area: &mut [u8], nonce: u64) -> Told
 
 #[no_mangle]
 pub extern "C" fn cuwelfra_peer_rebase_timers(area: &mut [u8], ms: u64) -> Told
-    ensures { λ r. ⌜ Keeps (rebaseArea (now (area .entry)) ms) r (now (area .exit)) ⌝ }
+    ensures { λ r. ⌜ (r, now (area .exit)) ≡ exported toldBy (rebaseArea (now (area .entry)) ms) ⌝ }
 {
     if area.len() < 704 {
         return error::tell(Refusal::ShortArea);
@@ -163,16 +164,16 @@ pub extern "C" fn cuwelfra_peer_rebase_timers(area: &mut [u8], ms: u64) -> Told
 #[no_mangle]
 pub extern "C" fn cuwelfra_peer_pending_ops(
     area: &[u8],
-    rows: &[u8],
+    log: &[u8],
     held: &[u8],
     head: &[u8],
 ) -> ClockTold
-    ensures { λ r. ⌜ r ≡ clockTold (pendingOpsArea (now (area .entry)) (areas (now (rows .entry)) (now (held .entry)) (now (head .entry)))) ⌝ }
+    ensures { λ r. ⌜ r ≡ countTold (pendingOpsArea (now (area .entry)) (areas (now (log .entry)) (now (held .entry)) (now (head .entry)))) ⌝ }
 {
     if area.len() < 704 {
         return crate::vector::clock_told(NumberAnswer::Refused(Refusal::ShortArea));
     }
-    let answer = peer::raw::load_peer(area).pending_ops(rows, held, head);
+    let answer = peer::raw::load_peer(area).pending_ops(log, held, head);
     if is_state(area) {
         return crate::vector::clock_told(answer);
     }

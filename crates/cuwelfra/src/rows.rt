@@ -5,10 +5,10 @@ use row::Reading;
 use row::RowRead;
 ghost use mathlib.Core.Path.{_≡_};
 ghost use Rattle.row.specs.Wire.{unsignedBytes, signedBytes};
-ghost use Rattle.row.specs.Views.{rowReadOf};
-ghost use Rattle.row.specs.Calls.{writeOp, writtenBy, readOp, slotBy};
+ghost use Rattle.row.specs.Values.{rowReadOf};
 ghost use Rattle.cuwelfra.specs.Bytes.{writtenTold};
-ghost use Rattle.cuwelfra.specs.Stores.{opTold, WritesRow, ReadsSlot};
+ghost use Rattle.cuwelfra.specs.Stores.{opTold, rowOut, rowInto};
+ghost use Rattle.cuwelfra.specs.Exports.{exported};
 ghost use mathlib.Core.List.{List};
 ghost use Prim.Native.Nat.{ℕ};
 
@@ -22,7 +22,7 @@ pub struct OpTold {
 // The row of a slot as Writer::unsigned_op writes it.
 #[no_mangle]
 pub extern "C" fn cuwelfra_unsigned_op(slot: &[u8], out: &mut [u8]) -> WrittenTold
-    ensures { λ r. ⌜ WritesRow unsignedBytes (now (slot .entry)) (now (out .entry)) r (now (out .exit)) ⌝ }
+    ensures { λ r. ⌜ (r, now (out .exit)) ≡ exported writtenTold (rowOut unsignedBytes (now (slot .entry)) (now (out .entry))) ⌝ }
 {
     crate::bytes::written(row::wire::unsigned_op(slot, out))
 }
@@ -30,7 +30,7 @@ pub extern "C" fn cuwelfra_unsigned_op(slot: &[u8], out: &mut [u8]) -> WrittenTo
 // The row of a slot as Writer::signed_op writes it.
 #[no_mangle]
 pub extern "C" fn cuwelfra_signed_op(slot: &[u8], out: &mut [u8]) -> WrittenTold
-    ensures { λ r. ⌜ WritesRow signedBytes (now (slot .entry)) (now (out .entry)) r (now (out .exit)) ⌝ }
+    ensures { λ r. ⌜ (r, now (out .exit)) ≡ exported writtenTold (rowOut signedBytes (now (slot .entry)) (now (out .entry))) ⌝ }
 {
     crate::bytes::written(row::wire::signed_op(slot, out))
 }
@@ -57,7 +57,7 @@ fn op_told(r: RowRead) -> OpTold
 // The batch row at `at`, into a slot.
 #[no_mangle]
 pub extern "C" fn cuwelfra_read_op(batch: &[u8], at: usize, slot: &mut [u8]) -> OpTold
-    ensures { λ r. ⌜ ReadsSlot (now (batch .entry)) at (now (slot .entry)) r (now (slot .exit)) ⌝ }
+    ensures { λ r. ⌜ (r, now (slot .exit)) ≡ rowInto (now (batch .entry)) at (now (slot .entry)) ⌝ }
 {
     op_told(row::wire::read_op(batch, at, slot))
 }

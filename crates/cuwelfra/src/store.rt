@@ -10,17 +10,17 @@ use log::Place;
 use log::StampAnswer;
 use stubs::ActorId;
 ghost use mathlib.Core.Path.{_≡_};
-ghost use Prim.Native.Nat.{ℕ, _≤_};
-ghost use mathlib.Core.List.{List};
+ghost use Prim.Native.Nat.{_≤_};
+ghost use Rattle.words.specs.Names.{Clock};
 ghost use lib.ListN.{length};
-ghost use Rattle.error.specs.Answer.{Answer, toldBy};
+ghost use Rattle.error.specs.Answer.{Answer, accepted, toldBy};
 ghost use Rattle.clock.specs.Vector.{outcomeOf};
 ghost use Rattle.log.specs.Areas.{areas};
-ghost use Rattle.log.specs.Calls.{logLenCall, pendingLenCall, floorCall, watermarkCall, clockCall, compactedCall, deriveCall, canServeCall, findCall};
-ghost use Rattle.log.specs.Views.{checkCall, stampOf, ClockIs};
-ghost use Rattle.cuwelfra.specs.Bytes.{accepted};
-ghost use Rattle.cuwelfra.specs.Vectors.{clockTold, coverTold};
-ghost use Rattle.cuwelfra.specs.Stores.{stampTold, lookupTold, ClockOut};
+ghost use Rattle.log.specs.Calls.{logLenCall, pendingLenCall, floorCall, watermarkCall, clockCall, compactedCall, deriveCall, canServeCall, findCall, checkCall};
+ghost use Rattle.log.specs.Answers.{stampOf, ClockIs};
+ghost use Rattle.cuwelfra.specs.Exports.{exported};
+ghost use Rattle.cuwelfra.specs.Vectors.{countTold, coverTold};
+ghost use Rattle.cuwelfra.specs.Stores.{stampTold, lookupTold, clockOut};
 
 #[repr(C)]
 pub struct StampTold {
@@ -73,57 +73,52 @@ pub(crate) fn stamp_told(r: StampAnswer) -> StampTold
 
 // Whether the areas hold a store that keeps every rule.
 #[no_mangle]
-pub extern "C" fn cuwelfra_store_check(rows: &[u8], held: &[u8], head: &[u8]) -> Told
-    ensures { λ r. ⌜ r ≡ toldBy (checkCall (areas (now (rows .entry)) (now (held .entry)) (now (head .entry)))) ⌝ }
+pub extern "C" fn cuwelfra_store_check(log: &[u8], held: &[u8], head: &[u8]) -> Told
+    ensures { λ r. ⌜ r ≡ toldBy (checkCall (areas (now (log .entry)) (now (held .entry)) (now (head .entry)))) ⌝ }
 {
-    outcome_told(log::check::check_store(rows, held, head))
+    outcome_told(log::check::check_store(log, held, head))
 }
 
 #[no_mangle]
-pub extern "C" fn cuwelfra_log_len(rows: &[u8], held: &[u8], head: &[u8]) -> ClockTold
-    ensures { λ r. ⌜ r ≡ clockTold (logLenCall (areas (now (rows .entry)) (now (held .entry)) (now (head .entry)))) ⌝ }
+pub extern "C" fn cuwelfra_log_len(log: &[u8], held: &[u8], head: &[u8]) -> ClockTold
+    ensures { λ r. ⌜ r ≡ countTold (logLenCall (areas (now (log .entry)) (now (held .entry)) (now (head .entry)))) ⌝ }
 {
-    crate::vector::clock_told(log::query::len(rows, held, head))
+    crate::vector::clock_told(log::query::len(log, held, head))
 }
 
 #[no_mangle]
-pub extern "C" fn cuwelfra_pending_len(rows: &[u8], held: &[u8], head: &[u8]) -> ClockTold
-    ensures { λ r. ⌜ r ≡ clockTold (pendingLenCall (areas (now (rows .entry)) (now (held .entry)) (now (head .entry)))) ⌝ }
+pub extern "C" fn cuwelfra_pending_len(log: &[u8], held: &[u8], head: &[u8]) -> ClockTold
+    ensures { λ r. ⌜ r ≡ countTold (pendingLenCall (areas (now (log .entry)) (now (held .entry)) (now (head .entry)))) ⌝ }
 {
-    crate::vector::clock_told(log::query::pending_len(rows, held, head))
+    crate::vector::clock_told(log::query::pending_len(log, held, head))
 }
 
 #[no_mangle]
-pub extern "C" fn cuwelfra_floor(rows: &[u8], held: &[u8], head: &[u8]) -> StampTold
-    ensures { λ r. ⌜ r ≡ stampTold (floorCall (areas (now (rows .entry)) (now (held .entry)) (now (head .entry)))) ⌝ }
+pub extern "C" fn cuwelfra_floor(log: &[u8], held: &[u8], head: &[u8]) -> StampTold
+    ensures { λ r. ⌜ r ≡ stampTold (floorCall (areas (now (log .entry)) (now (held .entry)) (now (head .entry)))) ⌝ }
 {
-    stamp_told(log::query::floor(rows, held, head))
+    stamp_told(log::query::floor(log, held, head))
 }
 
 #[no_mangle]
-pub extern "C" fn cuwelfra_watermark(rows: &[u8], held: &[u8], head: &[u8], actor: u64) -> StampTold
-    ensures { λ r. ⌜ r ≡ stampTold (watermarkCall (areas (now (rows .entry)) (now (held .entry)) (now (head .entry))) actor) ⌝ }
+pub extern "C" fn cuwelfra_watermark(log: &[u8], held: &[u8], head: &[u8], actor: u64) -> StampTold
+    ensures { λ r. ⌜ r ≡ stampTold (watermarkCall (areas (now (log .entry)) (now (held .entry)) (now (head .entry))) actor) ⌝ }
 {
-    stamp_told(log::query::watermark(rows, held, head, ActorId(actor)))
+    stamp_told(log::query::watermark(log, held, head, ActorId(actor)))
 }
 
 // Whether a peer with the clock in `peer` can be brought up to date: 1 or 0.
 #[no_mangle]
-pub extern "C" fn cuwelfra_can_serve(
-    rows: &[u8],
-    held: &[u8],
-    head: &[u8],
-    peer: &[u8],
-) -> ClockTold
-    ensures { λ r. ⌜ r ≡ coverTold (canServeCall (areas (now (rows .entry)) (now (held .entry)) (now (head .entry))) (now (peer .entry))) ⌝ }
+pub extern "C" fn cuwelfra_can_serve(log: &[u8], held: &[u8], head: &[u8], peer: &[u8]) -> ClockTold
+    ensures { λ r. ⌜ r ≡ coverTold (canServeCall (areas (now (log .entry)) (now (held .entry)) (now (head .entry))) (now (peer .entry))) ⌝ }
 {
-    crate::vector::cover_told(log::query::can_serve(rows, held, head, peer))
+    crate::vector::cover_told(log::query::can_serve(log, held, head, peer))
 }
 
 // Writes an answered clock to a clock area; a refused one leaves it.
 fn put_clock(area: &mut [u8], r: ClockAnswer) -> Told
     requires { ⌜ 520 ≤ length (now area) ⌝ }
-    ensures { λ t. ⌜ ((answer : Answer (List (ℕ × ℕ))) → ClockIs answer r → ClockOut (now (area .entry)) answer t (now (area .exit))) ⌝ }
+    ensures { λ t. ⌜ ((answer : Answer Clock) → ClockIs answer r → (t, now (area .exit)) ≡ exported toldBy (clockOut (now (area .entry)) answer)) ⌝ }
 {
     let outcome = r.outcome;
     match outcome {
@@ -138,50 +133,45 @@ fn put_clock(area: &mut [u8], r: ClockAnswer) -> Told
 
 // The log's clock, into a clock area.
 #[no_mangle]
-pub extern "C" fn cuwelfra_log_clock(
-    rows: &[u8],
-    held: &[u8],
-    head: &[u8],
-    clock: &mut [u8],
-) -> Told
-    ensures { λ r. ⌜ ClockOut (now (clock .entry)) (clockCall (areas (now (rows .entry)) (now (held .entry)) (now (head .entry)))) r (now (clock .exit)) ⌝ }
+pub extern "C" fn cuwelfra_log_clock(log: &[u8], held: &[u8], head: &[u8], clock: &mut [u8]) -> Told
+    ensures { λ r. ⌜ (r, now (clock .exit)) ≡ exported toldBy (clockOut (now (clock .entry)) (clockCall (areas (now (log .entry)) (now (held .entry)) (now (head .entry))))) ⌝ }
 {
     if clock.len() < 520 {
         return error::tell(Refusal::ShortArea);
     }
-    put_clock(clock, log::query::clock(rows, held, head))
+    put_clock(clock, log::query::clock(log, held, head))
 }
 
 // The compacted clock, into a clock area.
 #[no_mangle]
 pub extern "C" fn cuwelfra_log_compacted(
-    rows: &[u8],
+    log: &[u8],
     held: &[u8],
     head: &[u8],
     clock: &mut [u8],
 ) -> Told
-    ensures { λ r. ⌜ ClockOut (now (clock .entry)) (compactedCall (areas (now (rows .entry)) (now (held .entry)) (now (head .entry)))) r (now (clock .exit)) ⌝ }
+    ensures { λ r. ⌜ (r, now (clock .exit)) ≡ exported toldBy (clockOut (now (clock .entry)) (compactedCall (areas (now (log .entry)) (now (held .entry)) (now (head .entry))))) ⌝ }
 {
     if clock.len() < 520 {
         return error::tell(Refusal::ShortArea);
     }
-    put_clock(clock, log::query::compacted(rows, held, head))
+    put_clock(clock, log::query::compacted(log, held, head))
 }
 
 // The clock derived from the logged rows, into a clock area.
 #[no_mangle]
 pub extern "C" fn cuwelfra_derive_clock(
-    rows: &[u8],
+    log: &[u8],
     held: &[u8],
     head: &[u8],
     clock: &mut [u8],
 ) -> Told
-    ensures { λ r. ⌜ ClockOut (now (clock .entry)) (deriveCall (areas (now (rows .entry)) (now (held .entry)) (now (head .entry)))) r (now (clock .exit)) ⌝ }
+    ensures { λ r. ⌜ (r, now (clock .exit)) ≡ exported toldBy (clockOut (now (clock .entry)) (deriveCall (areas (now (log .entry)) (now (held .entry)) (now (head .entry))))) ⌝ }
 {
     if clock.len() < 520 {
         return error::tell(Refusal::ShortArea);
     }
-    put_clock(clock, log::query::derive_clock(rows, held, head))
+    put_clock(clock, log::query::derive_clock(log, held, head))
 }
 
 #[repr(C)]
@@ -206,18 +196,18 @@ fn found(place: u64, slot: usize, len: usize) -> LookupTold
 // Where a row stands: 0 absent, 1 logged, 2 held, with its slot and the length of its payload, which stands at 384 in the slot.
 #[no_mangle]
 pub extern "C" fn cuwelfra_lookup(
-    rows: &[u8],
+    log: &[u8],
     held: &[u8],
     head: &[u8],
     actor: u64,
     seq: u64,
 ) -> LookupTold
-    ensures { λ r. ⌜ r ≡ lookupTold (areas (now (rows .entry)) (now (held .entry)) (now (head .entry))) (findCall (areas (now (rows .entry)) (now (held .entry)) (now (head .entry))) actor seq) ⌝ }
+    ensures { λ r. ⌜ r ≡ lookupTold (areas (now (log .entry)) (now (held .entry)) (now (head .entry))) (findCall (areas (now (log .entry)) (now (held .entry)) (now (head .entry))) actor seq) ⌝ }
 {
-    let place = log::lookup::find(rows, held, head, ActorId(actor), seq);
+    let place = log::lookup::find(log, held, head, ActorId(actor), seq);
     match place {
         Place::Logged(i) => {
-            let payload = log::raw::payload(rows, i);
+            let payload = log::raw::payload(log, i);
             found(1, i, payload.len())
         }
         Place::Held(i) => {

@@ -14,9 +14,10 @@ ghost use mathlib.Core.Path.{_≡_};
 ghost use Prim.Native.Nat.{_≤_};
 ghost use lib.ListN.{length};
 ghost use Rattle.error.specs.Answer.{done, toldBy};
-ghost use Rattle.clock.specs.Vector.{numberOf, outcomeOf, coverOf, orderAnswer, changedOf, incrementedOf};
-ghost use Rattle.cuwelfra.specs.Vectors.{onArea, newArea, observeArea, incrementArea, mergeArea, getArea, dominatesArea, compareArea, clockTold, coverTold, orderTold, Keeps, KeepsNumber};
-ghost use mathlib.Core.Bool.{true};
+ghost use Rattle.clock.specs.Vector.{numberAnswer, outcomeOf, coverOf, orderAnswer, changedOf, incrementedOf};
+ghost use Rattle.cuwelfra.specs.Vectors.{newArea, observeArea, incrementArea, mergeArea, getArea, dominatesArea, compareArea, countTold, coverTold, orderTold};
+ghost use Rattle.cuwelfra.specs.Exports.{exported, writtenBack};
+ghost use Rattle.clock.specs.Area.{clockBytes};
 
 #[repr(C)]
 pub struct ClockTold {
@@ -25,7 +26,7 @@ pub struct ClockTold {
 }
 
 pub(crate) fn clock_told(r: NumberAnswer) -> ClockTold
-    ensures { λ t. ⌜ t ≡ clockTold (numberOf r) ⌝ }
+    ensures { λ t. ⌜ t ≡ countTold (numberAnswer r) ⌝ }
 {
     match r {
         NumberAnswer::Number(number) => ClockTold {
@@ -96,7 +97,7 @@ fn order_told(r: OrderAnswer) -> ClockTold
 // Writes the changed clock back; a refused one is left.
 fn keep(area: &mut [u8], r: Changed) -> Told
     requires { ⌜ 520 ≤ length (now area) ⌝ }
-    ensures { λ t. ⌜ Keeps (onArea true (now (area .entry)) (changedOf r)) t (now (area .exit)) ⌝ }
+    ensures { λ t. ⌜ (t, now (area .exit)) ≡ exported toldBy (writtenBack clockBytes (now (area .entry)) (changedOf r)) ⌝ }
 {
     let outcome = r.outcome;
     match outcome {
@@ -111,7 +112,7 @@ fn keep(area: &mut [u8], r: Changed) -> Told
 
 fn keep_number(area: &mut [u8], r: Incremented) -> ClockTold
     requires { ⌜ 520 ≤ length (now area) ⌝ }
-    ensures { λ t. ⌜ KeepsNumber (onArea true (now (area .entry)) (incrementedOf r)) t (now (area .exit)) ⌝ }
+    ensures { λ t. ⌜ (t, now (area .exit)) ≡ exported countTold (writtenBack clockBytes (now (area .entry)) (incrementedOf r)) ⌝ }
 {
     let answer = r.answer;
     match answer {
@@ -133,7 +134,7 @@ fn keep_number(area: &mut [u8], r: Incremented) -> ClockTold
 // Makes the area the clock with no entry.
 #[no_mangle]
 pub extern "C" fn cuwelfra_clock_new(clock: &mut [u8]) -> Told
-    ensures { λ r. ⌜ Keeps (newArea (now (clock .entry))) r (now (clock .exit)) ⌝ }
+    ensures { λ r. ⌜ (r, now (clock .exit)) ≡ exported toldBy (newArea (now (clock .entry))) ⌝ }
 {
     if clock.len() < 520 {
         return error::tell(Refusal::ShortArea);
@@ -144,7 +145,7 @@ pub extern "C" fn cuwelfra_clock_new(clock: &mut [u8]) -> Told
 
 #[no_mangle]
 pub extern "C" fn cuwelfra_clock_get(clock: &[u8], actor: u64) -> ClockTold
-    ensures { λ r. ⌜ r ≡ clockTold (getArea (now (clock .entry)) actor) ⌝ }
+    ensures { λ r. ⌜ r ≡ countTold (getArea (now (clock .entry)) actor) ⌝ }
 {
     if clock.len() < 520 {
         return clock_told(NumberAnswer::Refused(Refusal::ShortArea));
@@ -154,7 +155,7 @@ pub extern "C" fn cuwelfra_clock_get(clock: &[u8], actor: u64) -> ClockTold
 
 #[no_mangle]
 pub extern "C" fn cuwelfra_clock_observe(clock: &mut [u8], actor: u64, seq: u64) -> Told
-    ensures { λ r. ⌜ Keeps (observeArea (now (clock .entry)) actor seq) r (now (clock .exit)) ⌝ }
+    ensures { λ r. ⌜ (r, now (clock .exit)) ≡ exported toldBy (observeArea (now (clock .entry)) actor seq) ⌝ }
 {
     if clock.len() < 520 {
         return error::tell(Refusal::ShortArea);
@@ -165,7 +166,7 @@ pub extern "C" fn cuwelfra_clock_observe(clock: &mut [u8], actor: u64, seq: u64)
 
 #[no_mangle]
 pub extern "C" fn cuwelfra_clock_increment(clock: &mut [u8], actor: u64) -> ClockTold
-    ensures { λ r. ⌜ KeepsNumber (incrementArea (now (clock .entry)) actor) r (now (clock .exit)) ⌝ }
+    ensures { λ r. ⌜ (r, now (clock .exit)) ≡ exported countTold (incrementArea (now (clock .entry)) actor) ⌝ }
 {
     if clock.len() < 520 {
         return clock_told(NumberAnswer::Refused(Refusal::ShortArea));
@@ -176,7 +177,7 @@ pub extern "C" fn cuwelfra_clock_increment(clock: &mut [u8], actor: u64) -> Cloc
 
 #[no_mangle]
 pub extern "C" fn cuwelfra_clock_merge(clock: &mut [u8], other: &[u8]) -> Told
-    ensures { λ r. ⌜ Keeps (mergeArea (now (clock .entry)) (now (other .entry))) r (now (clock .exit)) ⌝ }
+    ensures { λ r. ⌜ (r, now (clock .exit)) ≡ exported toldBy (mergeArea (now (clock .entry)) (now (other .entry))) ⌝ }
 {
     if clock.len() < 520 {
         return error::tell(Refusal::ShortArea);

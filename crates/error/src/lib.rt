@@ -1,7 +1,7 @@
 // From src/error.rs: every refusal of document 01, with the values that it carries.
 use stubs::ActorId;
 ghost use mathlib.Core.Path.{_≡_};
-ghost use Rattle.error.specs.Numbers.{numberOf, firstOf, secondOf, toldOf};
+ghost use Rattle.error.specs.Numbers.{toldOf};
 
 // One variant for each numbered refusal. The comment gives document 01's number and word.
 pub enum Refusal {
@@ -59,7 +59,7 @@ pub enum Refusal {
 
 // Document 01's number of a refusal.
 pub fn number(r: Refusal) -> u64
-    ensures { λ n. ⌜ n ≡ numberOf r ⌝ }
+    ensures { λ n. ⌜ n ≡ toldOf r .number ⌝ }
 {
     match r {
         Refusal::UnsoundStore => 1,
@@ -95,7 +95,7 @@ pub fn number(r: Refusal) -> u64
 
 // The first value that a refusal carries, 0 where it carries none.
 pub fn first(r: Refusal) -> u64
-    ensures { λ n. ⌜ n ≡ firstOf r ⌝ }
+    ensures { λ n. ⌜ n ≡ toldOf r .first ⌝ }
 {
     match r {
         Refusal::UnsoundStore => 0,
@@ -131,7 +131,7 @@ pub fn first(r: Refusal) -> u64
 
 // The second value that a refusal carries, 0 where it carries fewer.
 pub fn second(r: Refusal) -> u64
-    ensures { λ n. ⌜ n ≡ secondOf r ⌝ }
+    ensures { λ n. ⌜ n ≡ toldOf r .second ⌝ }
 {
     match r {
         Refusal::UnsoundStore => 0,

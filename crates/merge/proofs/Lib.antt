@@ -1,8 +1,8 @@
-pub mod Used
-pub mod Rising
-pub mod Writing
-pub mod Settling
-pub mod Preparing
-pub mod Judging
-pub mod Committing
-pub mod Views
+pub mod UsedSlots
+pub mod RisingReferences
+pub mod WrittenAreas
+pub mod Settlement
+pub mod Preparation
+pub mod Judgement
+pub mod CallAnswers
+pub mod PartAnswers

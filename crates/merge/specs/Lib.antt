@@ -1,2 +1,2 @@
-pub mod Floors
-pub mod Promises
+pub mod Reports
+pub mod inside

@@ -11,10 +11,12 @@ use error::Refusal;
 use words::raw::put_word;
 ghost use mathlib.Core.Path.{_≡_};
 ghost use lib.ListN.{length, replicate};
+ghost use Rattle.error.specs.Answer.{ends};
 ghost use Rattle.log.specs.Areas.{areas};
 ghost use Rattle.merging.specs.Calls.{batchCall};
-ghost use Rattle.batch.specs.Views.{limitsOf};
-ghost use Rattle.merge.specs.Promises.{CommitNeeds, Commits, BatchLeaves, appliedOf};
+ghost use Rattle.batch.specs.Settings.{limitsOf};
+ghost use Rattle.merge.specs.inside.Decision.{CommitNeeds, Commits};
+ghost use Rattle.merge.specs.Reports.{appliedOf};
 
 // Writes what was decided: lines and log, the held rows, their count.
 fn commit(
@@ -58,7 +60,7 @@ pub fn apply_remote_ops(
     scratch: &mut [u8],
     output: &mut [u8],
 ) -> Applied
-    ensures { λ r. ⌜ BatchLeaves (batchCall (areas (now (log .entry)) (now (held .entry)) (now (head .entry))) (limitsOf limits) time (now (batch .entry)) (now (scratch .entry)) (now (output .entry))) (appliedOf r) (now (log .exit)) (now (held .exit)) (now (head .exit)) (now (scratch .exit)) (now (output .exit)) ⌝ }
+    ensures { λ r. ⌜ ends (appliedOf r) (record { areas = areas (now (log .exit)) (now (held .exit)) (now (head .exit)); scratch = now (scratch .exit); output = now (output .exit) }) ≡ batchCall (areas (now (log .entry)) (now (held .entry)) (now (head .entry))) (record { limits = limitsOf limits; time = time; batch = now (batch .entry); scratch = now (scratch .entry); output = now (output .entry) }) ⌝ }
 {
     let decision = decide(limits, time, log, held, head, batch, scratch, output);
     match decision {

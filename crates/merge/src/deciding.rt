@@ -19,8 +19,8 @@ ghost use lib.ListN.{length};
 ghost use Rattle.clock.specs.Vector.{outcomeOf};
 ghost use Rattle.log.specs.Areas.{areas};
 ghost use Rattle.merging.specs.Calls.{roomFor};
-ghost use Rattle.batch.specs.Views.{limitsOf};
-ghost use Rattle.merge.specs.Promises.{Opened, TakesIn, Prepares, SettleNeeds, Settles, JudgeNeeds, Judged, Merges, Decides};
+ghost use Rattle.batch.specs.Settings.{limitsOf};
+ghost use Rattle.merge.specs.inside.Decision.{Opened, TakesIn, Prepares, SettleNeeds, Settles, JudgeNeeds, Judged, Merges, Decides};
 
 // A batch that was read and validated: how many rows it has, and how many rows are held.
 pub(crate) enum Prepared {

@@ -7,7 +7,7 @@
 -- "batch, settings, time, floor and the other areas are any at all"                                         AllGiven: a batch's bytes are bytes, the time
 --                                                                                                           and a stamp's numbers fit their widths
 -- "A row is offered to a store when an accepted batch of its list holds it"                                 offered a₁ cs₁, offered a₂ cs₂
--- "Content is what step 2 compares; equal author, sequence and content make one row"                        equality of rows: one-row in Contents
+-- "Content is what step 2 compares; equal author, sequence and content make one row"                        equality of rows: one-row in RowContent
 -- "fair when no author and sequence is offered with two contents, in one store or across both"              OneContent of both lists' offers
 -- "within each list the times of accepted batches span at most the least pending age among those batches"   Spans (accepted a₁ cs₁), and of a₂, cs₂
 -- "Causal listing: a list of rows offered to the store, not necessarily all, without repeats, each its
@@ -16,21 +16,22 @@
 -- held rows are the other offered rows, in one order                                                        Follows, of each store
 -- "Logs and held rows are compared row by row in their order, by author, sequence and content;
 -- the clock is the log's. Arrival times and outcomes of held rows are not compared"                         Agree, of the two stores
---
--- Assumes nothing.
 use mathlib.Core.Path.{_≡_, refl}
 use mathlib.Core.Bool.{true}
+use mathlib.Core.Option.{none}
 use mathlib.Core.List.{List, [], Memᴰ·append-left, Memᴰ·append-right}
 use native.Mathlib.Omega.{arith}
 use Rattle.clock.specs.Entries.{rising}
 use Rattle.row.specs.Rows.{wordPairs}
-use Rattle.log.specs.Store.{Floor, Store, derive, all, neverFalls, sameEntries, heldRise, noTwice, marksRise, floorOk, clockOk, rules}
+use Rattle.log.specs.Store.{derive, neverFalls, sameEntries, heldRise, noTwice, marksRise, floorOk, clockOk, rules}
 use Rattle.log.specs.Areas.{Areas, longEnough, writeStore}
-use Rattle.log.proofs.Store.{read-write}
+use Rattle.log.proofs.store.Encoding.{read-write}
 use Rattle.merging.specs.Offers.{Call, Empty, runCalls, offered, accepted, AllGiven, Demand3}
-use Rattle.merging.proofs.Runs.{Run, good, one-part}
-use Rattle.merging.proofs.Following.{follows, agree}
-use Rattle.merging.proofs.Bridge.{Reaches, after-calls}
+use Rattle.merging.specs.Group.{emptyStore}
+use Rattle.merging.proofs.StoreRuns.{Run, good, one-part}
+use Rattle.merging.proofs.StoreAgreement.{follows, agree}
+use Rattle.merging.proofs.AreasToStores.{Reaches, after-calls}
+use Rattle.words.specs.Lists.{all}
 
 -- one list of calls: the store that the areas hold at its end, and the run that led there
 reached : (a : Areas) (cs : List Call) → AllGiven cs → Empty a → Reaches (runCalls a cs) (offered a cs) (accepted a cs)
@@ -58,18 +59,15 @@ convergence a₁ a₂ cs₁ cs₂ given₁ given₂ empty₁ empty₂ one spans�
 
 -- ---- there are empty stores: areas that are long enough, with nothing written to them
 
-abbrev pub nothing : Store
-nothing = record { log = []; held = []; floor = Floor.none; clock = []; compacted = []; marks = [] }
-
-nothing-rules : rules nothing ≡ true
+empty-rules : rules (emptyStore none) ≡ true
 unfolding rules derive all neverFalls sameEntries heldRise noTwice marksRise floorOk clockOk rising wordPairs
-nothing-rules = refl
+empty-rules = refl
 
-pub empty-areas : (a : Areas) → longEnough a ≡ true → Empty (writeStore a nothing)
+pub empty-areas : (a : Areas) → longEnough a ≡ true → Empty (writeStore a (emptyStore none))
 empty-areas a long =
     record {
-      store = nothing;
-      holds = read-write a nothing long nothing-rules (omega arith);
+      store = emptyStore none;
+      holds = read-write a (emptyStore none) long empty-rules (omega arith);
       log = refl;
       held = refl;
       clock = refl;

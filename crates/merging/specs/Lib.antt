@@ -3,8 +3,8 @@ pub mod Merging
 pub mod Calls
 pub mod Offers
 pub mod Least
-pub mod Examples
-pub mod Group
-pub mod Steps
 pub mod Balance
-pub mod Leaving
+pub mod LentBytes
+pub mod Trace
+pub mod Group
+pub mod inside

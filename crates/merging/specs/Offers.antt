@@ -1,47 +1,51 @@
--- Document 01, "Call lists and fair offers (demand 3)": call lists, what they offer, when offers are fair, causal listings, and what demand 3 says. The
--- theorem stands in Convergence. Assumes nothing.
-use Prim.Native.Nat.{ℕ, zero, suc, _+_, _≤_, _<_, _^_}
+-- Document 01, "Call lists and fair offers" (demand 3): call lists, what they offer, when offers are fair, causal listings, and what demand 3 says. The theorem
+-- stands in proofs/Convergence.antt.
+use Prim.Native.Nat.{ℕ, suc, _+_, _≤_, _<_, _^_}
 use mathlib.Core.Path.{_≡_}
 use mathlib.Core.Logic.{_↔_}
-use mathlib.Core.Bool.{Bool, true, false}
-use mathlib.Core.List.{List, [], _∷_, _++_, List·Memᴰ, Sublistᴰ}
+use mathlib.Core.Bool.{Bool, true, not, _&&_, _||_}
+use mathlib.Core.List.{List, [], _∷_, _++_, map, List·Memᴰ, Sublistᴰ}
 use lib.Dec.{ltb, eqb}
-use Rattle.words.specs.Choice.{pick}
-use Rattle.words.specs.Be.{Bytes}
-use Rattle.stubs.specs.declared.ActorId.{ActorId}
+use Rattle.words.specs.Names.{Author, Seq, Time}
+use Rattle.words.specs.Be.{AllBytes}
+use Rattle.words.specs.Lists.{countIf}
 use Rattle.error.specs.Answer.{Answer, done, refused}
 use Rattle.clock.specs.declared.stamp.Timestamp.{Timestamp}
 use Rattle.clock.specs.Order.{stampLess}
 use Rattle.clock.specs.Entries.{get}
-use Rattle.row.specs.Rows.{Row, HeldRow, workLess}
+use Rattle.row.specs.Rows.{Row, workLess, stampOk}
 use Rattle.row.specs.Reading.{BatchRow}
-use Rattle.log.specs.Store.{Floor, Store, stampOk}
+use Rattle.log.specs.Store.{Store}
 use Rattle.log.specs.Areas.{Areas, rowsOf, readStore}
-use Rattle.merging.specs.Batch.{Limits, readBatch}
-use Rattle.merging.specs.Merging.{Report, countIf}
-use Rattle.merging.specs.Calls.{batchCall, setFloorCall}
+use Rattle.merging.specs.Batch.{readBatch}
+use Rattle.merging.specs.Calls.{BatchCall, batchCall, setFloorCall}
+use Rattle.merging.specs.Merging.{sameContent}
 
--- "A call list is any list of batch calls and floor settings on one store, refused ones included": settings, time, batch, scratch and output of a
--- batch call, or the stamp of a floor setting
+-- 01: "A call list is any list of batch calls and floor settings on one store, refused ones included."
 pub data Call : Type 0 where
-  batch : Limits → ℕ → List ℕ → List ℕ → List ℕ → Call
+  batch : BatchCall → Call
   floor : Timestamp → Call
 
--- "batch, settings, time, floor and the other areas are any at all": a byte is below 256, the time and the numbers of a stamp fit their widths
+-- 01: "batch, settings, time, floor and the other areas are any at all": a byte is below 256, the time and the numbers of a stamp fit their widths
 abbrev pub Given : Call → Type 0
-Given (batch l time b scratch output) = (time < 2 ^ 64) × Bytes b
+Given (batch c) = (c .time < 2 ^ 64) × AllBytes (c .batch)
 Given (floor t) = stampOk t ≡ true
 
--- "Each call gets the store as the last one returned or left it": the very definitions that the exported calls' contracts cite
+-- each call of a list is one that can be made
+abbrev pub AllGiven : List Call → Type 0
+AllGiven cs = (c : Call) → List·Memᴰ c cs → Given c
+
+-- 01: "Each call gets the store as the last one returned or left it": the very definitions that the exported calls' contracts cite
 unfoldable pub afterCall : Areas → Call → Areas
-afterCall a (batch l time b scratch output) = batchCall a l time b scratch output .areas
-afterCall a (floor t) = setFloorCall a t .areas
+afterCall a (batch c) = batchCall a c .left .areas
+afterCall a (floor t) = setFloorCall a t .left
 
 unfoldable pub runCalls : Areas → List Call → Areas
 runCalls a [] = a
 runCalls a (c ∷ cs) = runCalls (afterCall a c) cs
 
--- "It starts from an empty store: no row logged or held, no number in the clock, no watermark"; any floor
+-- 01: "It starts from an empty store: no row logged or held, no number in the clock, no watermark."; any floor. Then no row was compacted either: by the store
+-- rules the clock is the compacted clock with each logged row observed
 pub record Empty (a : Areas) : Type 0 where
   pub store : Store
   pub holds : readStore a ≡ done store
@@ -52,21 +56,21 @@ pub record Empty (a : Areas) : Type 0 where
 
 -- ---- offers
 
+-- the rows of a batch; none where it cannot be read
 unfoldable pub batchRows : List BatchRow → List Row
-batchRows [] = []
-batchRows (b ∷ bs) = b .row ∷ batchRows bs
+batchRows bs = map (λ b. b .row) bs
 
 abbrev pub rowsRead : Answer (List BatchRow) → List Row
 rowsRead (done bs) = batchRows bs
 rowsRead (refused r) = []
 
--- "A row is offered to a store when an accepted batch of its list holds it"
 abbrev pub whenAccepted : {A B : Type 0} → Answer A → List B → List B
 whenAccepted (done x) l = l
 whenAccepted (refused r) l = []
 
+-- 01: "A row is offered to a store when an accepted batch of its list holds it"
 unfoldable pub offeredBy : Areas → Call → List Row
-offeredBy a (batch l time b scratch output) = whenAccepted (batchCall a l time b scratch output .answer) (rowsRead (readBatch b))
+offeredBy a (batch c) = whenAccepted (batchCall a c .answer) (rowsRead (readBatch (c .batch)))
 offeredBy a (floor t) = []
 
 unfoldable pub offered : Areas → List Call → List Row
@@ -75,40 +79,43 @@ offered a (c ∷ cs) = offeredBy a c ++ offered (afterCall a c) cs
 
 -- the time and the pending age of an accepted batch
 pub record Accepted : Type 0 where
-  pub time : ℕ
-  pub age : ℕ
+  pub time : Time
+  pub age : Time
 
 unfoldable pub acceptedBy : Areas → Call → List Accepted
-acceptedBy a (batch l time b scratch output) =
-    whenAccepted (batchCall a l time b scratch output .answer) (record { time = time; age = l .maxPendingAge } ∷ [])
+acceptedBy a (batch c) = whenAccepted (batchCall a c .answer) (record { time = c .time; age = c .limits .maxPendingAge } ∷ [])
 acceptedBy a (floor t) = []
 
 unfoldable pub accepted : Areas → List Call → List Accepted
 accepted a [] = []
 accepted a (c ∷ cs) = acceptedBy a c ++ accepted (afterCall a c) cs
 
--- "the times of accepted batches span at most the least pending age among those batches"
+-- 01: "the times of accepted batches span at most the least pending age among those batches": no two times are further apart than any of the ages
 abbrev pub Spans : List Accepted → Type 0
 Spans bs = (x y z : Accepted) → List·Memᴰ x bs → List·Memᴰ y bs → List·Memᴰ z bs → x .time ≤ y .time + z .age
 
--- "Offers are fair when no author and sequence is offered with two contents, in one store or across both"; rows with equal author, sequence and
--- content are one row
+-- 01: "Offers are fair when no author and sequence is offered with two contents, in one store or across both"; 01: "equal author, sequence and content make one
+-- row"
 abbrev pub OneContent : List Row → Type 0
 OneContent rows = (r s : Row) → List·Memᴰ r rows → List·Memᴰ s rows → r .author ≡ s .author → r .seq ≡ s .seq → r ≡ s
+
+-- and two rows are equal where step 2 would compare them as equal; proved in proofs/RowContent.antt
+abbrev pub OneRow : Type 0
+OneRow = (r s : Row) → ((r .author ≡ s .author) × (r .seq ≡ s .seq) × (sameContent r s ≡ true)) ↔ (r ≡ s)
 
 -- ---- causal listings
 
 -- how many rows of an author
-unfoldable pub count : ℕ → List Row → ℕ
+unfoldable pub count : Author → List Row → ℕ
 count a rows = countIf (λ r. eqb (r .author) a) rows
 
--- "Causal listing: a list of rows offered to the store, not necessarily all, without repeats, each its author's next number from 1, each dependency at
--- most the number of that author's rows before it". The rows `before` come first
+-- 01: "a list of rows offered to the store, not necessarily all, without repeats, each its author's next number from 1, each dependency at most the number of that
+-- author's rows before it". `ListedAfter offers before rows`: these rows go on a causal listing whose rows so far are `before`
 pub data ListedAfter (offers : List Row) : List Row → List Row → Type 0 where
   none : {before : List Row} → ListedAfter offers before []
   more : {before rows : List Row} {r : Row}
       → List·Memᴰ r offers → (List·Memᴰ r before → ⊥) → r .seq ≡ suc (count (r .author) before)
-      → ((a n : ℕ) → List·Memᴰ (a, n) (r .deps) → n ≤ count a before)
+      → ((a : Author) (n : Seq) → List·Memᴰ (a, n) (r .deps) → n ≤ count a before)
       → ListedAfter offers (before ++ (r ∷ [])) rows → ListedAfter offers before (r ∷ rows)
 
 abbrev pub CausalListing : List Row → List Row → Type 0
@@ -120,9 +127,9 @@ Caused offers r = (before : List Row) × CausalListing offers (before ++ (r ∷ 
 
 -- ---- what demand 3 says
 
--- "rising stamp order", and "equal stamps of one author stand newest first"
+-- 01: "rising stamp order (wall, counter, author)"; "So equal stamps of one author stand newest first"
 unfoldable pub logLess : Row → Row → Bool
-logLess r s = pick (stampLess (r .stamp) (s .stamp)) true (pick (stampLess (s .stamp) (r .stamp)) false (ltb (s .seq) (r .seq)))
+logLess r s = stampLess (r .stamp) (s .stamp) || (not (stampLess (s .stamp) (r .stamp)) && ltb (s .seq) (r .seq))
 
 -- each row is below every later one, so that none stands twice
 pub data Sorted (lessThan : Row → Row → Bool) : List Row → Type 0 where
@@ -133,8 +140,8 @@ pub data Sorted (lessThan : Row → Row → Bool) : List Row → Type 0 where
 pub record Follows (offers : List Row) (s : Store) : Type 0 where
   pub logged : (r : Row) → List·Memᴰ r (s .log) ↔ Caused offers r
   pub log-order : Sorted logLess (s .log)
-  pub clock : (a : ℕ) → get (s .clock) a ≡ count a (s .log)
-  pub clock-entries : (a n : ℕ) → List·Memᴰ (a, n) (s .clock) → 0 < n
+  pub clock : (a : Author) → get (s .clock) a ≡ count a (s .log)
+  pub clock-entries : (a : Author) (n : Seq) → List·Memᴰ (a, n) (s .clock) → 0 < n
   pub held : (r : Row) → List·Memᴰ r (rowsOf (s .held)) ↔ (List·Memᴰ r offers × (List·Memᴰ r (s .log) → ⊥))
   pub held-order : Sorted workLess (rowsOf (s .held))
 
@@ -148,10 +155,6 @@ pub record Agree (offers₁ offers₂ : List Row) (s₁ s₂ : Store) : Type 0 w
   pub same-log : Within offers₁ offers₂ → Within offers₂ offers₁ → s₁ .log ≡ s₂ .log
   pub same-clock : Within offers₁ offers₂ → Within offers₂ offers₁ → s₁ .clock ≡ s₂ .clock
   pub same-held : Within offers₁ offers₂ → Within offers₂ offers₁ → rowsOf (s₁ .held) ≡ rowsOf (s₂ .held)
-
--- each call of the list is one that can be made
-abbrev pub AllGiven : List Call → Type 0
-AllGiven cs = (c : Call) → List·Memᴰ c cs → Given c
 
 -- demand 3: what holds of two lists of calls on two stores
 pub record Converges (a₁ a₂ : Areas) (cs₁ cs₂ : List Call) : Type 0 where

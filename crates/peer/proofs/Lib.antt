@@ -1,6 +1,6 @@
-pub mod Pinging
-pub mod Taking
-pub mod Calling
-pub mod Stored
-pub mod Counting
-pub mod Lending
+pub mod NonceLists
+pub mod PongPlaces
+pub mod PeerCalls
+pub mod PeerArea
+pub mod PendingCount
+pub mod LentPeer

@@ -1,26 +1,24 @@
--- The record of a peer, src/peer.rs: "Peers keep 8 pings and 8 answered". "1: the rules for clocks in a peer lent alone, or a peer's list counts above 8".
--- A refusal leaves the record. Assumes nothing.
-use Prim.Native.Nat.{ℕ, zero, suc, _+_}
-use mathlib.Core.Path.{_≡_}
-use mathlib.Core.Bool.{Bool, true, false, _&&_, _||_}
+-- The record of a peer, src/peer.rs. 01: "Peers keep 8 pings and 8 answered"; "the rules for clocks in a clock or peer lent alone, or a peer's
+-- list counts above 8" are 1. A refusal leaves the record.
+use Prim.Native.Nat.{ℕ}
+use mathlib.Core.Bool.{Bool, false, _&&_, _||_}
 use mathlib.Core.List.{List, [], _∷_, _++_}
 use lib.ListN.{length, take, drop}
 use lib.Dec.{ltb, leb, eqb}
+use Rattle.words.specs.Names.{Author, Time, Clock}
+use Rattle.words.specs.Sizes.{mostPings}
 use Rattle.words.specs.Choice.{pick}
+use Rattle.words.specs.Lists.{countIf}
 use Rattle.words.specs.Areas.{pad}
-use Rattle.stubs.specs.declared.ActorId.{ActorId}
-use Rattle.error.specs.declared.Refusal.{Refusal}
 use Rattle.error.specs.declared.Refusal.the-variants.{UnsoundStore, UnaskedPong}
-use Rattle.error.specs.Answer.{Answer, done, refused, andThen, unless, Unit, unit}
+use Rattle.error.specs.Answer.{Answer, done, refused, andThen, unless, nothing, Ends, ends}
 use Rattle.clock.specs.declared.vector.VectorClock.{VectorClock}
-use Rattle.clock.specs.declared.vector.Outcome.{Outcome}
-use Rattle.clock.specs.Entries.{get}
-use Rattle.clock.specs.Vector.{sound, entries, clockOf, mergeCall, outcomeOf, Called}
+use Rattle.clock.specs.Vector.{sound, entries, clockOf, mergeCall, outcomeOf}
 use Rattle.row.specs.Rows.{Row}
-use Rattle.log.specs.Store.{Store}
 use Rattle.log.specs.Areas.{Areas, readStore}
+use Rattle.log.specs.Calls.{unseen}
 use Rattle.peer.specs.declared.PeerState.{PeerState}
-use Rattle.peer.specs.declared.PeerState.the-variants.{Connecting, Syncing, UpToDate, Disconnected}
+use Rattle.peer.specs.declared.PeerState.the-variants.{Connecting, Syncing, Disconnected}
 use Rattle.peer.specs.declared.Pings.{Pings}
 use Rattle.peer.specs.declared.Peer.{Peer}
 use Rattle.peer.specs.declared.PeerAnswer.{PeerAnswer}
@@ -31,14 +29,18 @@ nonces p = take (p .count) (p .nonces)
 
 -- the list of at most 8 nonces, unused places zero
 unfoldable pub pingsOf : List ℕ → Pings
-pingsOf ns = record { nonces = pad 8 ns; count = length ns }
+pingsOf ns = record { nonces = pad mostPings ns; count = length ns }
 
+-- the rules
 unfoldable pub peerSound : Peer → Bool
-peerSound p = leb (p .outstanding .count) 8 && (leb (p .answered .count) 8 && sound (p .«remote_clock»))
+peerSound p =
+    leb (p .outstanding .count) mostPings
+    && leb (p .answered .count) mostPings
+    && sound (p .«remote_clock»)
 
--- one more nonce; "Only the most recent few are kept": of nine the first goes
+-- one more nonce, of nine the first goes. rs: "Only the most recent few are kept"
 unfoldable pub push : List ℕ → ℕ → List ℕ
-push ns n = pick (ltb (length ns) 8) (ns ++ (n ∷ [])) (drop 1 (ns ++ (n ∷ [])))
+push ns n = pick (ltb (length ns) mostPings) (ns ++ (n ∷ [])) (drop 1 (ns ++ (n ∷ [])))
 
 unfoldable pub contains : ℕ → List ℕ → Bool
 contains n [] = false
@@ -50,7 +52,7 @@ remove n [] = []
 remove n (m ∷ ms) = pick (eqb m n) ms (m ∷ remove n ms)
 
 -- the record with other pings
-abbrev pub withPings : Peer → ℕ → List ℕ → List ℕ → Peer
+abbrev pub withPings : Peer → (lastPing : Time) → (outstanding answered : List ℕ) → Peer
 withPings p lastPing outstanding answered =
     record {
       id = p .id;
@@ -78,7 +80,7 @@ withClock p c =
     }
 
 -- the record with another state and other times
-abbrev pub withTimes : Peer → PeerState → ℕ → ℕ → ℕ → Peer
+abbrev pub withTimes : Peer → PeerState → (seen ping hello : Time) → Peer
 withTimes p state seen ping hello =
     record {
       id = p .id;
@@ -91,23 +93,12 @@ withTimes p state seen ping hello =
       «last_hello_ms» = hello;
     }
 
--- an answer with the record that comes back
-pub record PeerCalled : Type 0 where
-  pub answer : Answer Unit
-  pub peer : Peer
-
-abbrev pub kept : Peer → Refusal → PeerCalled
-kept p r = record { answer = refused r; peer = p }
-
-abbrev pub became : Peer → PeerCalled
-became p = record { answer = done unit; peer = p }
-
--- 1 before all else
-unfoldable pub onSound : Peer → PeerCalled → PeerCalled
-onSound p called = pick (peerSound p) called (kept p UnsoundStore)
+-- a call on p: 1 before all else
+unfoldable pub onSound : Peer → Ends Unit Peer → Ends Unit Peer
+onSound p call = pick (peerSound p) call (ends (refused UnsoundStore) p)
 
 -- Peer::new
-unfoldable pub newPeer : ℕ → Peer
+unfoldable pub newPeer : Author → Peer
 newPeer id =
     record {
       id = record { 0 = id };
@@ -120,57 +111,59 @@ newPeer id =
       «last_hello_ms» = 0;
     }
 
-unfoldable pub startedCall : Peer → ℕ → PeerCalled
-startedCall p now = onSound p (became (withTimes p Syncing now now now))
+-- Peer::connection_started
+unfoldable pub startedCall : Peer → Time → Ends Unit Peer
+startedCall p now = onSound p (ends (done nothing) (withTimes p Syncing now now now))
 
-unfoldable pub lostCall : Peer → PeerCalled
-lostCall p = onSound p (became (withTimes p Disconnected (p .«last_seen_ms») (p .«last_ping_ms») (p .«last_hello_ms»)))
+-- Peer::connection_lost
+unfoldable pub lostCall : Peer → Ends Unit Peer
+lostCall p = onSound p (ends (done nothing) (withTimes p Disconnected (p .«last_seen_ms») (p .«last_ping_ms») (p .«last_hello_ms»)))
 
 -- Peer::absorb_clock: the peer's clock merged with another, with that call's refusals
-abbrev pub absorbed : Peer → Called Unit → PeerCalled
-absorbed p c = record { answer = c .answer; peer = withClock p (c .clock) }
+abbrev pub absorbed : Peer → Ends Unit VectorClock → Ends Unit Peer
+absorbed p c = ends (c .answer) (withClock p (c .left))
 
-unfoldable pub absorbCall : Peer → VectorClock → PeerCalled
+unfoldable pub absorbCall : Peer → VectorClock → Ends Unit Peer
 absorbCall p c = onSound p (absorbed p (mergeCall (p .«remote_clock») c))
 
 -- Peer::replace_clock: zeros and all
-unfoldable pub replaceCall : Peer → VectorClock → PeerCalled
-replaceCall p c = onSound p (pick (sound c) (became (withClock p c)) (kept p UnsoundStore))
+unfoldable pub replaceCall : Peer → VectorClock → Ends Unit Peer
+replaceCall p c = onSound p (pick (sound c) (ends (done nothing) (withClock p c)) (ends (refused UnsoundStore) p))
 
-unfoldable pub recordPingCall : Peer → ℕ → PeerCalled
-recordPingCall p now = onSound p (became (withPings p now (push (nonces (p .outstanding)) now) (nonces (p .answered))))
+-- Peer::record_ping: the time is the nonce
+unfoldable pub recordPingCall : Peer → Time → Ends Unit Peer
+recordPingCall p now = onSound p (ends (done nothing) (withPings p now (push (nonces (p .outstanding)) now) (nonces (p .answered))))
 
 -- Peer::take_pong: a pong that answers an outstanding ping moves it to the answered; a repeat of a recent answer passes; else 21
-unfoldable pub takePong : Peer → ℕ → PeerCalled
+unfoldable pub takePong : Peer → (nonce : ℕ) → Ends Unit Peer
 takePong p nonce =
     pick (contains nonce (nonces (p .outstanding)))
-    (became (withPings p (p .«last_ping_ms») (remove nonce (nonces (p .outstanding))) (push (nonces (p .answered)) nonce)))
-    (pick (contains nonce (nonces (p .answered))) (became p) (kept p UnaskedPong))
+    (ends (done nothing) (withPings p (p .«last_ping_ms») (remove nonce (nonces (p .outstanding))) (push (nonces (p .answered)) nonce)))
+    (pick (contains nonce (nonces (p .answered))) (ends (done nothing) p) (ends (refused UnaskedPong) p))
 
-unfoldable pub takePongCall : Peer → ℕ → PeerCalled
+unfoldable pub takePongCall : Peer → (nonce : ℕ) → Ends Unit Peer
 takePongCall p nonce = onSound p (takePong p nonce)
 
 -- a timer that stands in the future is pulled back
-unfoldable pub rebased : ℕ → ℕ → ℕ
+unfoldable pub rebased : (now timer : Time) → Time
 rebased now timer = pick (ltb now timer) now timer
 
-unfoldable pub rebaseCall : Peer → ℕ → PeerCalled
+-- Peer::rebase_timers
+unfoldable pub rebaseCall : Peer → Time → Ends Unit Peer
 rebaseCall p now =
-    onSound p (became (withTimes p (p .state) (rebased now (p .«last_seen_ms»)) (rebased now (p .«last_ping_ms»)) (rebased now (p .«last_hello_ms»))))
+    onSound p
+    (ends (done nothing)
+    (withTimes p (p .state) (rebased now (p .«last_seen_ms»)) (rebased now (p .«last_ping_ms»)) (rebased now (p .«last_hello_ms»))))
 
 -- how many logged rows the peer has not acknowledged
-unfoldable pub pendingOps : List (ℕ × ℕ) → List Row → ℕ
-pendingOps es [] = 0
-pendingOps es (r ∷ rs) = pick (ltb (get es (r .author)) (r .seq)) (suc (pendingOps es rs)) (pendingOps es rs)
+unfoldable pub pendingOps : Clock → List Row → ℕ
+pendingOps es rows = countIf (unseen es) rows
 
--- 2 for the store, 1 for store and peer
+-- Peer::pending_ops: 2 for the store, 1 for store and peer
 unfoldable pub pendingOpsCall : Peer → Areas → Answer ℕ
 pendingOpsCall p a =
     andThen (readStore a) (λ s. unless (peerSound p) UnsoundStore (done (pendingOps (entries (p .«remote_clock»)) (s .log))))
 
--- what the code's answers stand for: an outcome and the record afterwards, apart or in one
-abbrev pub called : Outcome → Peer → PeerCalled
-called o p = record { answer = outcomeOf o; peer = p }
-
-abbrev pub calledOf : PeerAnswer → PeerCalled
-calledOf r = called (r .outcome) (r .peer)
+-- what the code's answer stands for
+abbrev pub answerOf : PeerAnswer → Ends Unit Peer
+answerOf r = ends (outcomeOf (r .outcome)) (r .peer)

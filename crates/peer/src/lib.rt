@@ -12,10 +12,11 @@ use log::check::check_store;
 use stubs::ActorId;
 ghost use mathlib.Core.Path.{_≡_};
 ghost use Prim.Native.Nat.{_≤_, _<_};
-ghost use Rattle.clock.specs.Vector.{numberOf};
+ghost use Rattle.clock.specs.Vector.{numberAnswer};
 ghost use Rattle.log.specs.Areas.{areas};
-ghost use Rattle.peer.specs.Peers.{nonces, push, withPings, withClock, withTimes, kept, became, rebased, takePong, calledOf, newPeer, peerSound, startedCall, lostCall, absorbCall, replaceCall, recordPingCall, takePongCall, rebaseCall, pendingOpsCall};
-ghost use Rattle.peer.specs.Places.{without, havingPings};
+ghost use Rattle.peer.specs.Peers.{nonces, push, withPings, withClock, withTimes, rebased, takePong, answerOf, newPeer, peerSound, startedCall, lostCall, absorbCall, replaceCall, recordPingCall, takePongCall, rebaseCall, pendingOpsCall};
+ghost use Rattle.peer.specs.inside.NoncePlaces.{without, havingPings};
+ghost use Rattle.error.specs.Answer.{done, refused, nothing, ends};
 
 // Connection status of a peer.
 pub enum PeerState {
@@ -51,7 +52,7 @@ pub struct PeerAnswer {
 
 // The record as it was, with a refusal.
 fn refuse(p: Peer, r: Refusal) -> PeerAnswer
-    ensures { λ a. ⌜ calledOf a ≡ kept p r ⌝ }
+    ensures { λ a. ⌜ answerOf a ≡ ends (refused r) p ⌝ }
 {
     PeerAnswer {
         outcome: Outcome::Refused(r),
@@ -61,7 +62,7 @@ fn refuse(p: Peer, r: Refusal) -> PeerAnswer
 
 // The record afterwards.
 fn done(p: Peer) -> PeerAnswer
-    ensures { λ a. ⌜ calledOf a ≡ became p ⌝ }
+    ensures { λ a. ⌜ answerOf a ≡ ends (done nothing) p ⌝ }
 {
     PeerAnswer {
         outcome: Outcome::Done,
@@ -165,7 +166,7 @@ fn moved(p: Peer, i: usize, nonce: u64) -> Peer
 // What a pong does to a sound record.
 fn taken(p: Peer, nonce: u64) -> PeerAnswer
     requires { ⌜ (p .outstanding .count ≤ 8) × (p .answered .count ≤ 8) ⌝ }
-    ensures { λ r. ⌜ calledOf r ≡ takePong p nonce ⌝ }
+    ensures { λ r. ⌜ answerOf r ≡ takePong p nonce ⌝ }
 {
     let sent = p.outstanding;
     let i = nonces::find_nonce(sent, nonce);
@@ -221,7 +222,7 @@ impl Peer {
 
     // Marks the start of a handshake at `now`.
     pub fn connection_started(self, now: u64) -> PeerAnswer
-        ensures { λ r. ⌜ calledOf r ≡ startedCall self now ⌝ }
+        ensures { λ r. ⌜ answerOf r ≡ startedCall self now ⌝ }
     {
         if !self.is_sound() {
             return refuse(self, Refusal::UnsoundStore);
@@ -231,7 +232,7 @@ impl Peer {
 
     // Marks the link as lost.
     pub fn connection_lost(self) -> PeerAnswer
-        ensures { λ r. ⌜ calledOf r ≡ lostCall self ⌝ }
+        ensures { λ r. ⌜ answerOf r ≡ lostCall self ⌝ }
     {
         if !self.is_sound() {
             return refuse(self, Refusal::UnsoundStore);
@@ -247,7 +248,7 @@ impl Peer {
 
     // Folds in a clock that the peer reported in an Ack. Acks can arrive late, so this only raises the remote clock.
     pub fn absorb_clock(self, clock: VectorClock) -> PeerAnswer
-        ensures { λ r. ⌜ calledOf r ≡ absorbCall self clock ⌝ }
+        ensures { λ r. ⌜ answerOf r ≡ absorbCall self clock ⌝ }
     {
         if !self.is_sound() {
             return refuse(self, Refusal::UnsoundStore);
@@ -265,7 +266,7 @@ impl Peer {
 
     // Puts the clock that the peer reported in a Hello in the place of the remote clock: a peer that lost data has a lower one.
     pub fn replace_clock(self, clock: VectorClock) -> PeerAnswer
-        ensures { λ r. ⌜ calledOf r ≡ replaceCall self clock ⌝ }
+        ensures { λ r. ⌜ answerOf r ≡ replaceCall self clock ⌝ }
     {
         if !self.is_sound() {
             return refuse(self, Refusal::UnsoundStore);
@@ -278,7 +279,7 @@ impl Peer {
 
     // The record once a ping is sent at `now`, its nonce. Only the most recent few are kept.
     pub fn pinged(self, now: u64) -> PeerAnswer
-        ensures { λ r. ⌜ calledOf r ≡ recordPingCall self now ⌝ }
+        ensures { λ r. ⌜ answerOf r ≡ recordPingCall self now ⌝ }
     {
         if !self.is_sound() {
             return refuse(self, Refusal::UnsoundStore);
@@ -289,7 +290,7 @@ impl Peer {
     // The record once the pong with this nonce is taken. A repeat of a recent answer is a duplicated frame and changes
     // nothing; any other nonce that is not outstanding is refused.
     pub fn ponged(self, nonce: u64) -> PeerAnswer
-        ensures { λ r. ⌜ calledOf r ≡ takePongCall self nonce ⌝ }
+        ensures { λ r. ⌜ answerOf r ≡ takePongCall self nonce ⌝ }
     {
         if !self.is_sound() {
             return refuse(self, Refusal::UnsoundStore);
@@ -299,7 +300,7 @@ impl Peer {
 
     // Pulls every timer back to `now` where the physical clock moved backwards, so that each can expire.
     pub fn rebase_timers(self, now: u64) -> PeerAnswer
-        ensures { λ r. ⌜ calledOf r ≡ rebaseCall self now ⌝ }
+        ensures { λ r. ⌜ answerOf r ≡ rebaseCall self now ⌝ }
     {
         if !self.is_sound() {
             return refuse(self, Refusal::UnsoundStore);
@@ -313,7 +314,7 @@ impl Peer {
 
     // How many rows of a store's log this peer has not acknowledged: the depth of the offline queue.
     pub fn pending_ops(self, log: &[u8], held: &[u8], head: &[u8]) -> NumberAnswer
-        ensures { λ r. ⌜ numberOf r ≡ pendingOpsCall self (areas (now (log .entry)) (now (held .entry)) (now (head .entry))) ⌝ }
+        ensures { λ r. ⌜ numberAnswer r ≡ pendingOpsCall self (areas (now (log .entry)) (now (held .entry)) (now (head .entry))) ⌝ }
     {
         let told = check_store(log, held, head);
         match told {

@@ -5,7 +5,7 @@ ghost use Prim.Native.Nat.{_+_, _≤_, _<_};
 ghost use lib.ListN.{length};
 ghost use Rattle.words.specs.Areas.{putAt};
 ghost use Rattle.peer.specs.Peers.{nonces, pingsOf, push};
-ghost use Rattle.peer.specs.Places.{place, without};
+ghost use Rattle.peer.specs.inside.NoncePlaces.{place, without};
 
 // Copies all of s to d, from `at` on.
 fn copy(d: &mut [u64], at: usize, s: &[u64])

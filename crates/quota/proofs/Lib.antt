@@ -1,2 +1,2 @@
-pub mod Counting
-pub mod Fitting
+pub mod AuthorCounts
+pub mod RoomTest

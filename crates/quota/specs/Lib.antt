@@ -1,2 +1,1 @@
-pub mod Authors
-pub mod Promises
+pub mod inside

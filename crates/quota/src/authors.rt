@@ -7,10 +7,11 @@ ghost use mathlib.Core.Path.{_≡_};
 ghost use mathlib.Core.Bool.{true};
 ghost use Prim.Native.Nat.{_*_, _≤_};
 ghost use lib.ListN.{length, take};
-ghost use Rattle.merging.specs.Merging.{lower};
-ghost use Rattle.working.specs.Refs.{refOk, cells, refsOk};
-ghost use Rattle.working.specs.Looks.{refRow};
-ghost use Rattle.quota.specs.Authors.{times, lowestIn, authorsOf, overOf};
+ghost use Rattle.merging.specs.Merging.{times, lower, lowestOver};
+ghost use Rattle.working.specs.inside.References.{refOk, refsOk};
+ghost use Rattle.working.specs.inside.Looks.{refRow};
+ghost use Rattle.quota.specs.inside.Authors.{authorsOf, overOf};
+ghost use Rattle.words.specs.Be.{column};
 
 // The lowest author above the limit, if there is one.
 pub(crate) enum Over {
@@ -42,8 +43,8 @@ pub(crate) fn author_of(held: &[u8], batch: &[u8], k: u64) -> u64
 
 // The authors of the n working rows.
 fn load_authors(held: &[u8], batch: &[u8], scratch: &[u8], n: usize, authors: &mut [u64])
-    requires { ⌜ (refsOk (now held) (now batch) (cells (now scratch) 0 n) ≡ true) × (16 * n ≤ length (now scratch)) × (n ≤ length (now authors)) ⌝ }
-    ensures { λ _. ⌜ take n (now (authors .exit)) ≡ authorsOf (now (held .entry)) (now (batch .entry)) (cells (now (scratch .entry)) 0 n) ⌝ }
+    requires { ⌜ (refsOk (now held) (now batch) (column (now scratch) 0 n) ≡ true) × (16 * n ≤ length (now scratch)) × (n ≤ length (now authors)) ⌝ }
+    ensures { λ _. ⌜ take n (now (authors .exit)) ≡ authorsOf (now (held .entry)) (now (batch .entry)) (column (now (scratch .entry)) 0 n) ⌝ }
 {
     let mut i: usize = 0;
     while i < n {
@@ -88,7 +89,7 @@ fn lower(a: u64, found: Over) -> Over
 // The lowest of the first n authors that stands more than `limit` times among them.
 fn lowest_over(authors: &[u64], n: usize, limit: u64) -> Over
     requires { ⌜ n ≤ length (now authors) ⌝ }
-    ensures { λ r. ⌜ overOf r ≡ lowestIn limit (take n (now (authors .entry))) (take n (now (authors .entry))) ⌝ }
+    ensures { λ r. ⌜ overOf r ≡ lowestOver limit (take n (now (authors .entry))) (take n (now (authors .entry))) ⌝ }
 {
     let mut found = Over::Nobody;
     let mut i: usize = 0;
@@ -105,8 +106,8 @@ fn lowest_over(authors: &[u64], n: usize, limit: u64) -> Over
 
 // The lowest author with more than `limit` of the n working rows. Where the limit is n or more, there is none.
 pub(crate) fn author_over(held: &[u8], batch: &[u8], scratch: &[u8], n: usize, limit: u64) -> Over
-    requires { ⌜ (refsOk (now held) (now batch) (cells (now scratch) 0 n) ≡ true) × (16 * n ≤ length (now scratch)) × (n ≤ 128) ⌝ }
-    ensures { λ r. ⌜ overOf r ≡ lowestIn limit (authorsOf (now (held .entry)) (now (batch .entry)) (cells (now (scratch .entry)) 0 n)) (authorsOf (now (held .entry)) (now (batch .entry)) (cells (now (scratch .entry)) 0 n)) ⌝ }
+    requires { ⌜ (refsOk (now held) (now batch) (column (now scratch) 0 n) ≡ true) × (16 * n ≤ length (now scratch)) × (n ≤ 128) ⌝ }
+    ensures { λ r. ⌜ overOf r ≡ lowestOver limit (authorsOf (now (held .entry)) (now (batch .entry)) (column (now (scratch .entry)) 0 n)) (authorsOf (now (held .entry)) (now (batch .entry)) (column (now (scratch .entry)) 0 n)) ⌝ }
 {
     if n as u64 <= limit {
         return Over::Nobody;

@@ -11,17 +11,18 @@ use stubs::ActorId;
 use words::raw::get_word;
 ghost use mathlib.Core.Path.{_≡_};
 ghost use mathlib.Core.Bool.{true};
-ghost use Prim.Native.Nat.{ℕ, _+_, _*_, _≤_};
+ghost use Prim.Native.Nat.{ℕ, _*_, _≤_};
 ghost use lib.Dec.{ltb};
 ghost use lib.ListN.{length};
 ghost use Rattle.clock.specs.Vector.{outcomeOf};
-ghost use Rattle.batch.specs.Views.{limitsOf};
+ghost use Rattle.batch.specs.Settings.{limitsOf};
 ghost use Rattle.merging.specs.Merging.{payloadBytes, quotas};
-ghost use Rattle.log.specs.Steps.{Sound};
-ghost use Rattle.working.specs.Refs.{refOk, refsOk, workRows, cells};
-ghost use Rattle.working.specs.Looks.{refRow};
-ghost use Rattle.working.specs.Promises.{Working};
-ghost use Rattle.quota.specs.Promises.{rowsLogged, Rooms};
+ghost use Rattle.log.specs.inside.StoreChanges.{Sound};
+ghost use Rattle.working.specs.inside.References.{refOk, refsOk, workRows};
+ghost use Rattle.working.specs.inside.Looks.{refRow};
+ghost use Rattle.working.specs.inside.Scratch.{Working};
+ghost use Rattle.quota.specs.inside.Room.{rowsLogged, Rooms};
+ghost use Rattle.words.specs.Be.{column};
 
 // The payload length of a reference's row.
 fn payload_len(held: &[u8], batch: &[u8], k: u64) -> usize
@@ -41,7 +42,7 @@ fn payload_len(held: &[u8], batch: &[u8], k: u64) -> usize
 // The payload bytes of the n working rows.
 fn payload_bytes(held: &[u8], batch: &[u8], scratch: &[u8], n: usize) -> usize
     requires { ⌜ Working (now held) (now batch) (now scratch) n × (n ≤ 128) ⌝ }
-    ensures { λ r. ⌜ ((time : ℕ) → r ≡ payloadBytes (workRows (now (held .entry)) (now (batch .entry)) time (cells (now (scratch .entry)) 0 n))) ⌝ }
+    ensures { λ r. ⌜ ((time : ℕ) → r ≡ payloadBytes (workRows (now (held .entry)) (now (batch .entry)) time (column (now (scratch .entry)) 0 n))) ⌝ }
 {
     let mut bytes: usize = 0;
     let mut i: usize = 0;
@@ -56,7 +57,7 @@ fn payload_bytes(held: &[u8], batch: &[u8], scratch: &[u8], n: usize) -> usize
 // Whether the payload bytes of the n working rows are above the limit. Where as many of the largest are not, none is read.
 fn bytes_over(held: &[u8], batch: &[u8], scratch: &[u8], n: usize, limit: u64) -> bool
     requires { ⌜ Working (now held) (now batch) (now scratch) n × (n ≤ 128) ⌝ }
-    ensures { λ r. ⌜ ((time : ℕ) → r ≡ ltb limit (payloadBytes (workRows (now (held .entry)) (now (batch .entry)) time (cells (now (scratch .entry)) 0 n)))) ⌝ }
+    ensures { λ r. ⌜ ((time : ℕ) → r ≡ ltb limit (payloadBytes (workRows (now (held .entry)) (now (batch .entry)) time (column (now (scratch .entry)) 0 n)))) ⌝ }
 {
     if (256 * n) as u64 <= limit {
         return false;
@@ -68,7 +69,7 @@ fn bytes_over(held: &[u8], batch: &[u8], scratch: &[u8], n: usize, limit: u64) -
 // Step 5: 14, 15 and 16 of the n rows that wait.
 pub fn quotas(held: &[u8], batch: &[u8], scratch: &[u8], n: usize, limits: MergeLimits) -> Outcome
     requires { ⌜ Working (now held) (now batch) (now scratch) n × (n ≤ 128) ⌝ }
-    ensures { λ r. ⌜ ((time : ℕ) → outcomeOf r ≡ quotas (limitsOf limits) (workRows (now (held .entry)) (now (batch .entry)) time (cells (now (scratch .entry)) 0 n))) ⌝ }
+    ensures { λ r. ⌜ ((time : ℕ) → outcomeOf r ≡ quotas (limitsOf limits) (workRows (now (held .entry)) (now (batch .entry)) time (column (now (scratch .entry)) 0 n))) ⌝ }
 {
     if n as u64 > limits.max_pending {
         return Outcome::Refused(Refusal::HeldOverflow {
@@ -100,7 +101,7 @@ pub fn room(
     m: usize,
     authors: usize,
 ) -> Outcome
-    requires { ⌜ Sound (now log) (now head) × (refsOk (now held) (now batch) (cells (now scratch) 8 m) ≡ true) × (16 * m ≤ length (now scratch)) × (m ≤ 128) ⌝ }
+    requires { ⌜ Sound (now log) (now head) × (refsOk (now held) (now batch) (column (now scratch) 8 m) ≡ true) × (16 * m ≤ length (now scratch)) × (m ≤ 128) ⌝ }
     ensures { λ r. ⌜ Rooms (now (log .entry)) (now (head .entry)) (rowsLogged (now (held .entry)) (now (batch .entry)) (now (scratch .entry)) m) authors (outcomeOf r) ⌝ }
 {
     let count = get_word(head, 0) as usize;

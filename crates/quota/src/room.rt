@@ -7,15 +7,16 @@ use stubs::ActorId;
 use words::raw::get_word;
 ghost use mathlib.Core.Path.{_≡_};
 ghost use mathlib.Core.Bool.{true};
-ghost use Prim.Native.Nat.{_+_, _*_, _≤_};
+ghost use Prim.Native.Nat.{_*_, _≤_};
 ghost use lib.Dec.{leb};
 ghost use lib.ListN.{length};
 ghost use Rattle.clock.specs.Vector.{entries, sound};
-ghost use Rattle.log.specs.Passes.{marksIn};
-ghost use Rattle.log.specs.Steps.{run};
-ghost use Rattle.working.specs.Refs.{refsOk, cells};
-ghost use Rattle.quota.specs.Authors.{marked, Marked};
-ghost use Rattle.quota.specs.Promises.{rowsLogged};
+ghost use Rattle.log.specs.inside.StoreTests.{marksIn};
+ghost use Rattle.log.specs.inside.StoreChanges.{run};
+ghost use Rattle.working.specs.inside.References.{refsOk};
+ghost use Rattle.quota.specs.inside.Authors.{marked, Marked};
+ghost use Rattle.quota.specs.inside.Room.{rowsLogged};
+ghost use Rattle.words.specs.Be.{column};
 
 // The authors of the head's watermarks as a clock, each with the number 1.
 fn marked_authors(head: &[u8]) -> VectorClock
@@ -46,7 +47,7 @@ pub(crate) fn authors_fit(
     m: usize,
     start: VectorClock,
 ) -> bool
-    requires { ⌜ (refsOk (now held) (now batch) (cells (now scratch) 8 m) ≡ true) × (16 * m ≤ length (now scratch)) × (sound start ≡ true) ⌝ }
+    requires { ⌜ (refsOk (now held) (now batch) (column (now scratch) 8 m) ≡ true) × (16 * m ≤ length (now scratch)) × (sound start ≡ true) ⌝ }
     ensures { λ r. ⌜ r ≡ leb (length (run true (entries start) (rowsLogged (now (held .entry)) (now (batch .entry)) (now (scratch .entry)) m))) 32 ⌝ }
 {
     let mut clock = start;
@@ -67,7 +68,7 @@ pub(crate) fn authors_fit(
 
 // Whether the watermarks have room for the authors of the m logged rows.
 pub(crate) fn marks_fit(held: &[u8], batch: &[u8], head: &[u8], scratch: &[u8], m: usize) -> bool
-    requires { ⌜ (refsOk (now held) (now batch) (cells (now scratch) 8 m) ≡ true) × (16 * m ≤ length (now scratch)) × Marked (now head) ⌝ }
+    requires { ⌜ (refsOk (now held) (now batch) (column (now scratch) 8 m) ≡ true) × (16 * m ≤ length (now scratch)) × Marked (now head) ⌝ }
     ensures { λ r. ⌜ r ≡ leb (length (run true (marked (marksIn (now (head .entry)))) (rowsLogged (now (held .entry)) (now (batch .entry)) (now (scratch .entry)) m))) 32 ⌝ }
 {
     let start = marked_authors(head);

@@ -2,7 +2,7 @@ pub mod Rows
 pub mod Slots
 pub mod Wire
 pub mod Reading
-pub mod Views
-pub mod Steps
+pub mod Values
 pub mod Calls
-pub mod Pieces
+pub mod inside
+pub mod RoundTrip

@@ -1,4 +1,4 @@
-pub mod Frame
-pub mod Listing
-pub mod Turns
-pub mod Theorems
+pub mod CallTests
+pub mod NumberList
+pub mod DeltaLoops
+pub mod DeltaTheorems

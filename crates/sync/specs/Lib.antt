@@ -1,2 +1,3 @@
 pub mod Delta
-pub mod Steps
+pub mod inside
+pub mod Chunks

@@ -10,9 +10,10 @@ ghost use Prim.Native.Nat.{_*_, _≤_};
 ghost use lib.ListN.{length};
 ghost use Rattle.clock.specs.Vector.{entries};
 ghost use Rattle.row.specs.Slots.{slotAt, slotOk};
-ghost use Rattle.log.specs.Passes.{rowAt};
+ghost use Rattle.log.specs.inside.StoreTests.{rowAt};
 ghost use Rattle.sync.specs.Delta.{deltaRows, rowSize, atLeastOne, chunks};
-ghost use Rattle.sync.specs.Steps.{rowsIn, Ready, Puts, startsNext};
+ghost use Rattle.sync.specs.inside.DeltaSteps.{Ready, Puts, startsNext};
+ghost use Rattle.log.specs.inside.StoreChanges.{rowsIn};
 
 // No rows a chunk means 1.
 pub(crate) fn at_least_one(n: u64) -> u64

@@ -9,9 +9,10 @@ use crate::scan::write_delta;
 use clock::raw::load_clock;
 use clock::vector::NumberAnswer;
 ghost use mathlib.Core.Path.{_≡_};
-ghost use Rattle.clock.specs.Vector.{numberOf};
+ghost use Rattle.error.specs.Answer.{ends};
+ghost use Rattle.clock.specs.Vector.{numberAnswer};
 ghost use Rattle.log.specs.Areas.{areas};
-ghost use Rattle.sync.specs.Delta.{deltaCall, chunkCall, Lists};
+ghost use Rattle.sync.specs.Delta.{deltaCall, chunkCall};
 
 // The log positions of every row that a peer with this clock has not seen, eight big-endian bytes each.
 pub fn calculate_delta(
@@ -21,7 +22,7 @@ pub fn calculate_delta(
     peer: &[u8],
     output: &mut [u8],
 ) -> NumberAnswer
-    ensures { λ r. ⌜ Lists (deltaCall (areas (now (rows .entry)) (now (held .entry)) (now (head .entry))) (now (peer .entry)) (now (output .entry))) (numberOf r) (now (output .exit)) ⌝ }
+    ensures { λ r. ⌜ ends (numberAnswer r) (now (output .exit)) ≡ deltaCall (areas (now (rows .entry)) (now (held .entry)) (now (head .entry))) (now (peer .entry)) (now (output .entry)) ⌝ }
 {
     let told = count_rows(rows, held, head, peer, output.len());
     match told {
@@ -43,7 +44,7 @@ pub fn chunk_ops(
     max_bytes: u64,
     output: &mut [u8],
 ) -> NumberAnswer
-    ensures { λ r. ⌜ Lists (chunkCall (areas (now (rows .entry)) (now (held .entry)) (now (head .entry))) (now (peer .entry)) «max_per_chunk» «max_bytes» (now (output .entry))) (numberOf r) (now (output .exit)) ⌝ }
+    ensures { λ r. ⌜ ends (numberAnswer r) (now (output .exit)) ≡ chunkCall (areas (now (rows .entry)) (now (held .entry)) (now (head .entry))) (now (peer .entry)) «max_per_chunk» «max_bytes» (now (output .entry)) ⌝ }
 {
     let told = count_rows(rows, held, head, peer, output.len());
     match told {

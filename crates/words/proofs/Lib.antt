@@ -1,4 +1,4 @@
 pub mod Words
 pub mod Puts
 pub mod Moves
-pub mod Both
+pub mod Conjunction

@@ -1,4 +1,4 @@
--- Laws of moves and of clearing, one turn of each loop. Assumes nothing.
+-- Laws of moves and of clearing, one turn of each loop.
 use Prim.Native.Nat.{ℕ, suc, _+_, _-_, _≤_, _<_}
 use mathlib.Core.Path.{_≡_, refl, _∙_, sym, ap}
 use mathlib.Core.List.{List, [], _∷_, _++_, append-assoc, append-nil}
@@ -6,7 +6,7 @@ use native.Mathlib.Omega.{arith}
 use lib.ListN.{length, take, drop, getD, set, length-take, length-drop, length-append, take-append-drop, replicate, List·getD-append}
 use lib.Seq.{drop-cons, getD-take, getD-drop, getD-append-add, set-append-left, set-append-seam, take-suc, take-suc-set, take-set-lt, drop-length, length-take-le}
 use borrow.Author.Fill.{fill-none, fill-more}
-use Rattle.words.specs.Areas.{movedUp, movedDown}
+use Rattle.words.specs.inside.Moves.{movedUp, movedDown}
 
 module _ (s : List ℕ) (to by j : ℕ) (h : j < to) (k : to + by ≤ length s) where
   up-read : getD (movedUp (j + 1) to by s) j 0 ≡ getD s j 0

@@ -1,4 +1,4 @@
--- Laws of putAt: writes one after the other, in loops and into zeros. Assumes nothing.
+-- Laws of putAt: writes one after the other, in loops and into zeros.
 use Prim.Native.Nat.{ℕ, zero, suc, _+_, _-_, _*_, _≤_, _<_}
 use mathlib.Core.Path.{_≡_, refl, sym, _∙_, ap}
 use mathlib.Core.List.{List, [], _∷_, _++_, append-assoc, append-nil}

@@ -1,4 +1,4 @@
--- Laws of words: what is put is what is got, and back; a padded field. Assumes nothing.
+-- Laws of words: what is put is what is got, and back; a padded field.
 use Prim.Native.Nat.{ℕ, zero, suc, _+_, _-_, _*_, _/_, _%_, _≤_, _<_}
 use mathlib.Core.Path.{_≡_, refl, sym, _∙_, ap}
 use mathlib.Core.List.{List, [], _∷_, _++_, append-assoc, append-nil}
@@ -9,10 +9,11 @@ use mathlib.Core.Logic.{_⊎_, inl, inr}
 use mathlib.Core.Bool.{Bool, true, false, not}
 use lib.Dec.{ltb}
 use borrow.Author.Tests.{ltb-true, ltb-false}
-use Rattle.words.specs.Be.{Bytes, be64, get32, get64, bes, wordsAt}
-use Rattle.words.specs.Areas.{pad, putAt, Zero, ZeroIn}
+use Rattle.words.specs.Be.{AllBytes, be64, get64, bes, wordsAt}
+use Rattle.words.specs.Areas.{pad, putAt, Zero}
 use Rattle.words.specs.Choice.{Tells}
-use Rattle.words.specs.Choice.Tells.{yes, no}
+use Rattle.words.specs.Choice.Tells.{is-true, is-false}
+use Rattle.words.specs.inside.Moves.{ZeroIn, get32}
 
 -- a word is its two halves
 pub halves : (s : List ℕ) (at a b : ℕ) → a ≡ get32 s at → b ≡ get32 s (at + 4) → a * 4294967296 + b ≡ get64 s at
@@ -68,12 +69,12 @@ eight s at h =
     )
 
 -- what a word's bytes are, is what stands there
-pub word-back : (s : List ℕ) (at : ℕ) → Bytes s → at + 8 ≤ length s → be64 (get64 s at) ≡ take 8 (drop at s)
+pub word-back : (s : List ℕ) (at : ℕ) → AllBytes s → at + 8 ≤ length s → be64 (get64 s at) ≡ take 8 (drop at s)
 unfolding get64
 word-back s at b h =
     digits _ _ _ _ _ _ _ _ (b at) (b (at + 1)) (b (at + 2)) (b (at + 3)) (b (at + 4)) (b (at + 5)) (b (at + 6)) (b (at + 7)) ∙ sym (eight s at h)
 
-pub words-back : (s : List ℕ) (at n : ℕ) → Bytes s → at + 8 * n ≤ length s → bes (wordsAt s at n) ≡ take (8 * n) (drop at s)
+pub words-back : (s : List ℕ) (at n : ℕ) → AllBytes s → at + 8 * n ≤ length s → bes (wordsAt s at n) ≡ take (8 * n) (drop at s)
 unfolding bes wordsAt
 words-back s at zero b h = refl
 words-back s at (suc n) b h =
@@ -91,7 +92,7 @@ field s a n size h k z =
     let g : length (take (a + size - (a + n)) (drop (a + n) s)) ≡ a + size - (a + n) = length-take-le _ _ (simp length-drop (omega arith)) in
     ap (λ (m : ℕ). take m (drop a s)) e ∙ take-add n (size - n) (drop a s) ∙ rw (drop-drop n a s, l, ← f, z, g)
 
-pub word-fits : (s : List ℕ) (at : ℕ) → Bytes s → get64 s at < 18446744073709551616
+pub word-fits : (s : List ℕ) (at : ℕ) → AllBytes s → get64 s at < 18446744073709551616
 unfolding get64
 word-fits s at b = omega (arith, b at, b (at + 1), b (at + 2), b (at + 3), b (at + 4), b (at + 5), b (at + 6), b (at + 7))
 
@@ -102,7 +103,7 @@ test false = inr refl
 pub lt-or-le : (m n : ℕ) → (m < n) ⊎ (n ≤ m)
 lt-or-le m n = elim (test (ltb m n)) [ inl h ↦ inl (ltb-true m n h) | inr h ↦ inr (ltb-false m n h) ]
 
-pub bytes-part : (s : List ℕ) (a n : ℕ) → Bytes s → Bytes (take n (drop a s))
+pub bytes-part : (s : List ℕ) (a n : ℕ) → AllBytes s → AllBytes (take n (drop a s))
 bytes-part s a n b i =
     elim (lt-or-le i n) [
       | inr h ↦ rw (List·getD-eq-default (take n (drop a s)) 0 {n = i} (simp length-take (omega arith))) (omega arith)
@@ -157,16 +158,16 @@ in-one s i h k a b =
 
 -- a test of every byte of a block: none so far, a zero byte more, a byte more that is not zero, and the last
 pub block-none : (s : List ℕ) (at : ℕ) → Tells (ZeroIn s at (at + 0)) true
-block-none s at = yes (λ k a b. absurd (omega arith))
+block-none s at = is-true (λ k a b. absurd (omega arith))
 
 pub block-zero : (s : List ℕ) (at i : ℕ) (b c : Bool) → getD s (at + i) 0 ≡ 0 → c ≡ b → Tells (ZeroIn s at (at + i)) b
     → Tells (ZeroIn s at (at + (i + 1))) c
-block-zero s at i true c h e (yes z) =
-    rw (e) (yes (λ k a l. in-join s at (at + i) (at + i + 1) z (in-one s (at + i) h) k a (omega arith)))
-block-zero s at i false c h e (no n) = rw (e) (no (λ z. n (λ k a l. z k a (omega arith))))
+block-zero s at i true c h e (is-true z) =
+    rw (e) (is-true (λ k a l. in-join s at (at + i) (at + i + 1) z (in-one s (at + i) h) k a (omega arith)))
+block-zero s at i false c h e (is-false n) = rw (e) (is-false (λ z. n (λ k a l. z k a (omega arith))))
 
 pub block-other : (s : List ℕ) (at i : ℕ) (c : Bool) → (getD s (at + i) 0 ≡ 0 → ⊥) → c ≡ false → Tells (ZeroIn s at (at + (i + 1))) c
-block-other s at i c h e = rw (e) (no (λ z. h (z (at + i) (omega arith) (omega arith))))
+block-other s at i c h e = rw (e) (is-false (λ z. h (z (at + i) (omega arith) (omega arith))))
 
 pub block-all : (s : List ℕ) (at i n : ℕ) (b : Bool) → i ≡ n → Tells (ZeroIn s at (at + i)) b → Tells (ZeroIn s at (at + n)) b
 block-all s at i n b e t = rw (← e) t
@@ -180,19 +181,19 @@ in-zero s z = zero-all s (length s) (omega arith) (λ k l. z k (omega arith) l)
 
 -- a test of the elements from i up to j: passed, and not
 pub in-more : (s : List ℕ) (from i j : ℕ) (b : Bool) → Tells (ZeroIn s i j) b → not b ≡ false → ZeroIn s from i → ZeroIn s from j
-in-more s from i j true (yes z) e y = in-join s from i j y z
-in-more s from i j false (no n) e y = absurd (let z : _≡_ {A = ℕ} 0 1 = cc in omega arith)
+in-more s from i j true (is-true z) e y = in-join s from i j y z
+in-more s from i j false (is-false n) e y = absurd (let z : _≡_ {A = ℕ} 0 1 = cc in omega arith)
 
 pub zero-not-in : (s : List ℕ) (i j : ℕ) (b : Bool) → j ≤ length s → Tells (ZeroIn s i j) b → not b ≡ true → Zero s → ⊥
-zero-not-in s i j false h (no n) e z = n (zero-in s i j h z)
-zero-not-in s i j true h (yes y) e z = absurd (let w : _≡_ {A = ℕ} 0 1 = cc in omega arith)
+zero-not-in s i j false h (is-false n) e z = n (zero-in s i j h z)
+zero-not-in s i j true h (is-true y) e z = absurd (let w : _≡_ {A = ℕ} 0 1 = cc in omega arith)
 
 -- what is zero up to i: the last n elements tell, if they begin no later
 pub last-tells : (s : List ℕ) (i n : ℕ) (b : Bool) → n ≤ length s → length s - n ≤ i → ZeroIn s 0 i
     → Tells (ZeroIn s (length s - n) (length s - n + n)) b → Tells (Zero s) b
-last-tells s i n true h l y (yes z) =
-    yes (in-zero s (in-join s 0 i (length s) y (λ k a m. z k (omega arith) (omega arith))))
-last-tells s i n false h l y (no r) = no (λ z. r (zero-in s (length s - n) (length s - n + n) (omega arith) z))
+last-tells s i n true h l y (is-true z) =
+    is-true (in-zero s (in-join s 0 i (length s) y (λ k a m. z k (omega arith) (omega arith))))
+last-tells s i n false h l y (is-false r) = is-false (λ z. r (zero-in s (length s - n) (length s - n + n) (omega arith) z))
 
 -- eight stores in a row
 pub put8 : (l : List ℕ) (i a b c d e f g h : ℕ) → i + 8 ≤ length l

@@ -3,9 +3,10 @@
 ghost use mathlib.Core.Path.{_≡_};
 ghost use Prim.Native.Nat.{_+_, _-_, _*_, _≤_, _<_};
 ghost use lib.ListN.{length};
-ghost use Rattle.words.specs.Be.{be64, get32, get64, bes};
-ghost use Rattle.words.specs.Areas.{putAt, Zero, ZeroIn, movedUp, movedDown};
+ghost use Rattle.words.specs.Be.{be64, get64, bes};
+ghost use Rattle.words.specs.Areas.{putAt, Zero};
 ghost use Rattle.words.specs.Choice.{Tells};
+ghost use Rattle.words.specs.inside.Moves.{ZeroIn, movedUp, movedDown, get32};
 
 // A byte as a word.
 fn wide(x: u8) -> u64

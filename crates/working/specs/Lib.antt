@@ -1,7 +1,1 @@
-pub mod Refs
-pub mod Promises
-pub mod Columns
-pub mod Ticks
-pub mod Looks
-pub mod Keys
-pub mod Entry
+pub mod inside

@@ -8,12 +8,12 @@ ghost use mathlib.Core.Path.{_≡_};
 ghost use mathlib.Core.Bool.{true};
 ghost use Prim.Native.Nat.{_+_, _≤_};
 ghost use lib.ListN.{length, take, drop};
-ghost use Rattle.row.specs.Slots.{same};
-ghost use Rattle.row.specs.Views.{depsOf, rowOf, OpFits};
+ghost use Rattle.row.specs.Values.{depsOf, rowOf, OpFits};
 ghost use Rattle.log.specs.Store.{sameEntries};
 ghost use Rattle.merging.specs.Merging.{sameStamp, sameContent};
-ghost use Rattle.working.specs.Refs.{refOk};
-ghost use Rattle.working.specs.Looks.{refRow};
+ghost use Rattle.working.specs.inside.References.{refOk};
+ghost use Rattle.working.specs.inside.Looks.{refRow};
+ghost use Rattle.words.specs.Lists.{same};
 
 fn same_bytes(p: &[u8], q: &[u8]) -> bool
     ensures { λ r. ⌜ r ≡ same (now (p .entry)) (now (q .entry)) ⌝ }

@@ -17,12 +17,13 @@ ghost use Prim.Native.Nat.{ℕ, _+_, _*_, _≤_};
 ghost use lib.ListN.{length};
 ghost use Rattle.clock.specs.Order.{less};
 ghost use Rattle.row.specs.Reading.{readRow};
-ghost use Rattle.working.specs.Refs.{isRead, cells};
-ghost use Rattle.working.specs.Promises.{Working};
-ghost use Rattle.working.specs.Ticks.{ticks, Clocked};
-ghost use Rattle.working.specs.Looks.{refRow, KeyOf, numbersOf, idRef, beforeRef, firstWhere, placeIn};
-ghost use Rattle.working.specs.Keys.{keyAt, Keyed};
-ghost use Rattle.working.specs.Entry.{Entrant, Puts, Admits};
+ghost use Rattle.working.specs.inside.References.{isRead};
+ghost use Rattle.working.specs.inside.Scratch.{Working};
+ghost use Rattle.working.specs.inside.DrainClock.{ticks, Clocked};
+ghost use Rattle.working.specs.inside.Looks.{refRow, KeyOf, numbersOf, idRef, beforeRef, firstWhere, placeIn};
+ghost use Rattle.working.specs.inside.Keys.{keyAt, Keyed};
+ghost use Rattle.working.specs.inside.Entry.{Entrant, Puts, Admits};
+ghost use Rattle.words.specs.Be.{column};
 
 // What became of a row.
 pub(crate) enum Admit {
@@ -66,7 +67,7 @@ fn same_id(keys: &[u64], at: usize, actor: ActorId, seq: u64) -> bool
 // The first of the n working rows with this author and sequence.
 fn seek(keys: &[u64], n: usize, actor: ActorId, seq: u64) -> Found
     requires { ⌜ 5 * n ≤ length (now keys) ⌝ }
-    ensures { λ r. ⌜ ((held batch s : List ℕ) → Keyed held batch s (now (keys .entry)) n → r ≡ firstWhere (idRef (actor .0) seq held batch) (cells s 0 n)) ⌝ }
+    ensures { λ r. ⌜ ((held batch s : List ℕ) → Keyed held batch s (now (keys .entry)) n → r ≡ firstWhere (idRef (actor .0) seq held batch) (column s 0 n)) ⌝ }
 {
     let mut i: usize = 0;
     while i < n {
@@ -90,7 +91,7 @@ fn goes_before(keys: &[u64], at: usize, key: Key) -> bool
 // How many of the n working rows stand before a row.
 fn place(keys: &[u64], n: usize, key: Key) -> usize
     requires { ⌜ 5 * n ≤ length (now keys) ⌝ }
-    ensures is { λ r. ⌜ ((held batch s : List ℕ) → Keyed held batch s (now (keys .entry)) n → r ≡ placeIn n (firstWhere (beforeRef key held batch) (cells s 0 n))) ⌝ }
+    ensures is { λ r. ⌜ ((held batch s : List ℕ) → Keyed held batch s (now (keys .entry)) n → r ≡ placeIn n (firstWhere (beforeRef key held batch) (column s 0 n))) ⌝ }
     ensures within { λ r. ⌜ r ≤ n ⌝ }
 {
     let mut i: usize = 0;

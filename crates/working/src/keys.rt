@@ -7,8 +7,8 @@ use words::raw::get_word;
 ghost use mathlib.Core.Path.{_≡_};
 ghost use Prim.Native.Nat.{_+_, _*_, _≤_};
 ghost use lib.ListN.{length};
-ghost use Rattle.working.specs.Promises.{Working};
-ghost use Rattle.working.specs.Keys.{keyAt, KeyWritten, KeyIn, Keyed};
+ghost use Rattle.working.specs.inside.Scratch.{Working};
+ghost use Rattle.working.specs.inside.Keys.{keyAt, KeyWritten, KeyIn, Keyed};
 
 // The key at `at`.
 pub(crate) fn key_at(keys: &[u64], at: usize) -> Key

@@ -16,13 +16,14 @@ ghost use Prim.Native.Nat.{suc, _≤_};
 ghost use lib.Dec.{leb, eqb};
 ghost use Rattle.row.specs.Reading.{readRow};
 ghost use Rattle.row.specs.Slots.{slotAt, slotOk, decodeHeld};
-ghost use Rattle.row.specs.Views.{depsOf};
-ghost use Rattle.clock.specs.Entries.{get};
-ghost use Rattle.merging.specs.Merging.{depsMet, ready};
-ghost use Rattle.working.specs.Refs.{isRead, refOk, cells};
-ghost use Rattle.working.specs.Promises.{Working};
-ghost use Rattle.working.specs.Ticks.{ticks, Clocked};
-ghost use Rattle.working.specs.Looks.{refRow, batchRowAt, KeyOf, readyRef, firstWhere};
+ghost use Rattle.row.specs.Values.{depsOf};
+ghost use Rattle.clock.specs.Entries.{get, dominates};
+ghost use Rattle.merging.specs.Merging.{ready};
+ghost use Rattle.working.specs.inside.References.{isRead, refOk};
+ghost use Rattle.working.specs.inside.Scratch.{Working};
+ghost use Rattle.working.specs.inside.DrainClock.{ticks, Clocked};
+ghost use Rattle.working.specs.inside.Looks.{refRow, batchRowAt, KeyOf, readyRef, firstWhere};
+ghost use Rattle.words.specs.Be.{column};
 
 // What rows are known and ordered by.
 pub(crate) struct Key {
@@ -144,7 +145,7 @@ fn reached(actor: ActorId, seq: u64, authors: &[u64], numbers: &[u64], count: us
 // Whether the dependencies of the row in a slot are met.
 fn met_slot(held: &[u8], base: usize, authors: &[u64], numbers: &[u64], count: usize) -> bool
     requires { ⌜ (slotOk (slotAt (now held) base) ≡ true) × Clocked (now authors) (now numbers) count ⌝ }
-    ensures { λ r. ⌜ r ≡ depsMet (ticks (now (authors .entry)) (now (numbers .entry)) count) (decodeHeld (slotAt (now (held .entry)) base) .row .deps) ⌝ }
+    ensures { λ r. ⌜ r ≡ dominates (ticks (now (authors .entry)) (now (numbers .entry)) count) (decodeHeld (slotAt (now (held .entry)) base) .row .deps) ⌝ }
 {
     let n = get_word(held, base + 40) as usize;
     let mut i: usize = 0;
@@ -163,7 +164,7 @@ fn met_slot(held: &[u8], base: usize, authors: &[u64], numbers: &[u64], count: u
 
 fn met_deps(d: Deps, authors: &[u64], numbers: &[u64], count: usize) -> bool
     requires { ⌜ (d .count ≤ 16) × Clocked (now authors) (now numbers) count ⌝ }
-    ensures { λ r. ⌜ r ≡ depsMet (ticks (now (authors .entry)) (now (numbers .entry)) count) (depsOf d) ⌝ }
+    ensures { λ r. ⌜ r ≡ dominates (ticks (now (authors .entry)) (now (numbers .entry)) count) (depsOf d) ⌝ }
 {
     let n = d.count;
     let mut i: usize = 0;
@@ -242,7 +243,7 @@ pub(crate) fn first_ready(
     count: usize,
 ) -> Found
     requires { ⌜ Working (now held) (now batch) (now scratch) n × Clocked (now authors) (now numbers) count ⌝ }
-    ensures { λ r. ⌜ r ≡ firstWhere (readyRef (ticks (now (authors .entry)) (now (numbers .entry)) count) (now (held .entry)) (now (batch .entry))) (cells (now (scratch .entry)) 0 n) ⌝ }
+    ensures { λ r. ⌜ r ≡ firstWhere (readyRef (ticks (now (authors .entry)) (now (numbers .entry)) count) (now (held .entry)) (now (batch .entry))) (column (now (scratch .entry)) 0 n) ⌝ }
 {
     let mut i: usize = 0;
     while i < n {

@@ -25,10 +25,11 @@ ghost use Rattle.clock.specs.Vector.{sound, entries};
 ghost use Rattle.error.specs.Answer.{got};
 ghost use Rattle.row.specs.Reading.{BatchRow};
 ghost use Rattle.row.specs.Slots.{slotAt, slotOk, slotsAt};
-ghost use Rattle.merging.specs.Batch.{readRows, StartsAt};
-ghost use Rattle.working.specs.Promises.{Working, Unexpired, Begun, AdmitsAll, Drains};
-ghost use Rattle.working.specs.Ticks.{ticks, Clocked};
-ghost use Rattle.working.specs.Keys.{Keyed};
+ghost use Rattle.merging.specs.Batch.{readRows};
+ghost use Rattle.working.specs.inside.Scratch.{Working, Unexpired, Begun, AdmitsAll, Drains};
+ghost use Rattle.working.specs.inside.DrainClock.{ticks, Clocked};
+ghost use Rattle.working.specs.inside.Keys.{Keyed};
+ghost use Rattle.merging.specs.inside.RowStarts.{StartsAt};
 
 // Step 1: the working references of the `count` held rows that arrived at cutoff or later; how many they are.
 pub fn unexpired(held: &[u8], scratch: &mut [u8], count: usize, cutoff: u64) -> usize
@@ -50,7 +51,7 @@ pub fn unexpired(held: &[u8], scratch: &mut [u8], count: usize, cutoff: u64) -> 
     n
 }
 
-// Admission by a clock that is lent as two rows, of which count are used; the keys are those of the working rows.
+// Admission by a clock that is lent as two columns, of which count are used; the keys are those of the working rows.
 fn admit_by(
     held: &[u8],
     batch: &[u8],
@@ -64,7 +65,7 @@ fn admit_by(
     count: usize,
 ) -> Admitting
     requires { ⌜ Working (now held) (now batch) (now scratch) n × Begun (now batch) (now starts) rows × (n ≤ 64) × (rows ≤ 64) × (16 * (n + rows) ≤ length (now scratch)) × Clocked (now authors) (now numbers) count × Keyed (now held) (now batch) (now scratch) (now keys) n × (5 * (n + rows) ≤ length (now keys)) ⌝ }
-    ensures { λ r. ⌜ ((time first : ℕ) (bs : List BatchRow) (end : ℕ) → StartsAt (now (batch .entry)) (now (starts .entry)) first rows → readRows (now (batch .entry)) rows first ≡ got bs end → AdmitsAll (ticks (now (authors .entry)) (now (numbers .entry)) count) (now (held .entry)) (now (batch .entry)) time (now (scratch .entry)) (now (scratch .exit)) n bs r) ⌝ }
+    ensures { λ r. ⌜ ((time first : ℕ) (bs : List BatchRow) (end : ℕ) → StartsAt (now (batch .entry)) (now (starts .entry)) first rows → readRows (now (batch .entry)) first rows ≡ got bs end → AdmitsAll (ticks (now (authors .entry)) (now (numbers .entry)) count) (now (held .entry)) (now (batch .entry)) time (now (scratch .entry)) (now (scratch .exit)) n bs r) ⌝ }
 {
     let mut left = n;
     let mut duplicates: usize = 0;
@@ -118,7 +119,7 @@ pub fn admit_all(
     rows: usize,
 ) -> Admitting
     requires { ⌜ Working (now held) (now batch) (now scratch) n × Begun (now batch) (now starts) rows × (n ≤ 64) × (rows ≤ 64) × (16 * (n + rows) ≤ length (now scratch)) × (568 ≤ length (now head)) × (sound (clockAt (now head) 48) ≡ true) ⌝ }
-    ensures { λ r. ⌜ ((time first : ℕ) (bs : List BatchRow) (end : ℕ) → StartsAt (now (batch .entry)) (now (starts .entry)) first rows → readRows (now (batch .entry)) rows first ≡ got bs end → AdmitsAll (entries (clockAt (now (head .entry)) 48)) (now (held .entry)) (now (batch .entry)) time (now (scratch .entry)) (now (scratch .exit)) n bs r) ⌝ }
+    ensures { λ r. ⌜ ((time first : ℕ) (bs : List BatchRow) (end : ℕ) → StartsAt (now (batch .entry)) (now (starts .entry)) first rows → readRows (now (batch .entry)) first rows ≡ got bs end → AdmitsAll (entries (clockAt (now (head .entry)) 48)) (now (held .entry)) (now (batch .entry)) time (now (scratch .entry)) (now (scratch .exit)) n bs r) ⌝ }
 {
     let mut authors = [0u64; 32];
     let mut numbers = [0u64; 32];
@@ -139,7 +140,7 @@ pub fn admit_all(
     )
 }
 
-// Draining by a clock that is lent as two rows, of which count are used.
+// Draining by a clock that is lent as two columns, of which count are used.
 fn drain_by(
     held: &[u8],
     batch: &[u8],

@@ -1,9 +1,9 @@
 // The words of the scratch area: entry i has the i-th working reference and, behind it, the i-th logged one.
 use words::raw::get_word;
 use words::raw::put_word;
-ghost use Prim.Native.Nat.{_+_, _-_, _*_, _≤_, _<_};
+ghost use Prim.Native.Nat.{_+_, _*_, _≤_, _<_};
 ghost use lib.ListN.{length};
-ghost use Rattle.working.specs.Columns.{Written, TakenOut, Pushed, PutIn};
+ghost use Rattle.working.specs.inside.Columns.{Written, TakenOut, Pushed, PutIn};
 
 pub(crate) fn put_ref(scratch: &mut [u8], at: usize, k: u64)
     requires { ⌜ at + 8 ≤ length (now scratch) ⌝ }

@@ -1,4 +1,4 @@
-// The clock that rows are drained by: two rows of numbers, of which n are used, so that it has room for every author there
+// The clock that rows are drained by: two columns, of which n are used, so that it has room for every author there
 // may be.
 use words::raw::get_word;
 ghost use mathlib.Core.Path.{_≡_};
@@ -7,9 +7,9 @@ ghost use Prim.Native.Nat.{_+_, _≤_};
 ghost use lib.ListN.{length};
 ghost use Rattle.clock.specs.Area.{clockAt};
 ghost use Rattle.clock.specs.Entries.{get};
-ghost use Rattle.clock.specs.Rows.{putIn};
+ghost use Rattle.clock.specs.inside.Columns.{putIn};
 ghost use Rattle.clock.specs.Vector.{sound, entries};
-ghost use Rattle.working.specs.Ticks.{ticks, Clocked, Ascends, Parts, standsAt, Ticked};
+ghost use Rattle.working.specs.inside.DrainClock.{ticks, Clocked, Ascends, Parts, standsAt, Ticked};
 
 // The place of an author among the first n, which rise: where it stands, or where it is to be put.
 fn find(authors: &[u64], n: usize, a: u64) -> usize

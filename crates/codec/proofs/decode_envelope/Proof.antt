@@ -1,6 +1,6 @@
 use mathlib.Core.Path.{_∙_}
 use borrow.Author.Needs.{needs}
-use Rattle.codec.proofs.Steps.{value-read, value-refused, sender-read, sender-refused}
+use Rattle.codec.proofs.ReadSteps.{value-read, value-refused, sender-read, sender-refused}
 use Rattle.codec.proofs.decode_envelope.Statement.{statement}
 use Rattle.codec.proofs.decode_envelope.Tie as tie
 

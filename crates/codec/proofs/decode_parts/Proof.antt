@@ -1,7 +1,7 @@
 use mathlib.Core.Path.{refl}
 use borrow.Author.Needs.{needs}
-use Rattle.codec.specs.Parts.{readParts}
-use Rattle.codec.proofs.Steps.{on, off, part-read, part-refused, shut, next, halt, finish-done, finish-refused}
+use Rattle.codec.specs.inside.EnvelopeParts.{readParts}
+use Rattle.codec.proofs.ReadSteps.{on, off, part-read, part-refused, shut, next, halt, finish-done, finish-refused}
 use Rattle.codec.proofs.decode_parts.Statement.{statement}
 use Rattle.codec.proofs.decode_parts.Tie as tie
 
@@ -42,11 +42,15 @@ returns-2 c = shut _ (on _ (part-read (c .before .before .before .before .before
 
 returns-3 : tie.Need-returns-3
 unfolding readParts
-returns-3 c = shut _ (on _ (part-read (c .before .before .before .before .before .before .before .before .before .before .before .get-bytes .ensures) (c .before .before .before .before .before .before .before .before .before .body2 .given .1)) (on _ (part-read (c .before .before .before .before .before .before .before .get-bytes2 .ensures) (c .before .before .before .before .before .sig2 .given .1)) refl)) (halt _ (finish-refused _ (c .before .before .before .finish .ensures) (c .before .end .given .1)))
+returns-3 c =
+    let at = c .before .before .before .before .before .before .before in
+    shut _ (on _ (part-read (at .before .before .before .before .get-bytes .ensures) (at .before .before .body2 .given .1)) (on _ (part-read (at .get-bytes2 .ensures) (c .before .before .before .before .before .sig2 .given .1)) refl)) (halt _ (finish-refused _ (c .before .before .before .finish .ensures) (c .before .end .given .1)))
 
 returns-4 : tie.Need-returns-4
 unfolding readParts
-returns-4 c = shut _ (on _ (part-read (c .before .before .before .before .before .before .before .before .before .before .get-bytes .ensures) (c .before .before .before .before .before .before .before .before .body2 .given .1)) (on _ (part-read (c .before .before .before .before .before .before .get-bytes2 .ensures) (c .before .before .before .before .sig2 .given .1)) refl)) (next _ (finish-done _ (c .before .before .finish .ensures) (c .enum-told .given .1)) refl)
+returns-4 c =
+    let at = c .before .before .before .before .before .before in
+    shut _ (on _ (part-read (at .before .before .before .before .get-bytes .ensures) (at .before .before .body2 .given .1)) (on _ (part-read (at .get-bytes2 .ensures) (c .before .before .before .before .sig2 .given .1)) refl)) (next _ (finish-done _ (c .before .before .finish .ensures) (c .enum-told .given .1)) refl)
 
 pub decode-parts-spec : {M : Type 1} → statement M
 decode-parts-spec =

@@ -1,6 +1,6 @@
 use native.Mathlib.Omega.{arith}
 use borrow.Author.Needs.{needs}
-use Rattle.codec.proofs.Writer.{next-room, refused-room, wrote, short-area, length-envelope}
+use Rattle.codec.proofs.WriterLaws.{next-room, refused-room, wrote, short-area, length-envelope}
 use Rattle.codec.proofs.encode_envelope.Statement.{statement}
 use Rattle.codec.proofs.encode_envelope.Tie as tie
 

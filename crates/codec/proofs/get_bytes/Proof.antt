@@ -2,8 +2,8 @@ use mathlib.Core.Path.{refl}
 use native.Mathlib.Omega.{arith}
 use borrow.Author.Needs.{needs}
 use Rattle.codec.specs.Reading.{getBytes}
-use Rattle.codec.proofs.Steps.{on, off, value-read, value-refused}
-use Rattle.codec.proofs.Laws.{count-inside}
+use Rattle.codec.proofs.ReadSteps.{on, off, value-read, value-refused}
+use Rattle.codec.proofs.RoundTrip.{count-inside}
 use Rattle.codec.proofs.get_bytes.Statement.{statement}
 use Rattle.codec.proofs.get_bytes.Tie as tie
 

@@ -2,8 +2,8 @@ use mathlib.Core.Path.{refl}
 use borrow.Author.Tests.{le-leb, lt-leb}
 use borrow.Author.Needs.{needs}
 use Rattle.codec.specs.Reading.{getCount}
-use Rattle.codec.proofs.Steps.{both, not-first, not-second, on, off, pass, fail, value-read, value-refused}
-use Rattle.codec.proofs.Laws.{varint-read}
+use Rattle.codec.proofs.ReadSteps.{both, not-first, not-second, on, off, pass, fail, value-read, value-refused}
+use Rattle.codec.proofs.RoundTrip.{varint-read}
 use Rattle.codec.proofs.get_count.Statement.{statement}
 use Rattle.codec.proofs.get_count.Tie as tie
 

@@ -4,7 +4,7 @@ use native.Mathlib.Omega.{arith}
 use borrow.Author.Tests.{lt-ltb, le-ltb}
 use borrow.Author.Needs.{needs}
 use Rattle.codec.specs.Reading.{getU32}
-use Rattle.codec.proofs.Steps.{on, off, pass, fail, value-read, value-refused}
+use Rattle.codec.proofs.ReadSteps.{on, off, pass, fail, value-read, value-refused}
 use Rattle.codec.proofs.get_u32.Statement.{statement}
 use Rattle.codec.proofs.get_u32.Tie as tie
 

@@ -5,7 +5,7 @@ use native.Mathlib.Omega.{arith}
 use lib.ListN.{length}
 use borrow.Author.Needs.{needs}
 use borrow.Author.Tests.{ltb-true, ltb-false}
-use Rattle.codec.proofs.Groups.{Going, start, ended, many, big, room, last, again}
+use Rattle.codec.proofs.VarintLoop.{Going, start, ended, many, big, room, last, again}
 use Rattle.codec.proofs.get_varint.Statement.{statement}
 use Rattle.codec.proofs.get_varint.Tie as tie
 

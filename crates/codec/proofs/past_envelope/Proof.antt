@@ -1,6 +1,6 @@
 use borrow.Author.Needs.{needs}
-use Rattle.codec.specs.Parts.{envelopeLength}
-use Rattle.codec.proofs.Writer.{room-then, room-off}
+use Rattle.codec.specs.inside.EnvelopeParts.{envelopeLength}
+use Rattle.codec.proofs.WriterLaws.{room-then, room-off}
 use Rattle.codec.proofs.past_envelope.Statement.{statement}
 use Rattle.codec.proofs.past_envelope.Tie as tie
 
@@ -34,11 +34,15 @@ returns c = rw (← c .before .before .before .before .varint-len .ensures) (roo
 
 returns-2 : tie.Need-returns-2
 unfolding envelopeLength
-returns-2 c = rw (← c .before .before .before .before .before .before .before .before .varint-len .ensures) (room-then _ _ _ (c .before .before .before .before .before .before .before .past .ensures) _ (c .before .before .before .before .before .first2 .given .1) (room-off _ _ _ (c .before .before .before .past-sized .ensures) _ (c .before .second .given .1)))
+returns-2 c =
+    let at = c .before .before .before .before .before .before .before in
+    rw (← at .before .varint-len .ensures) (room-then _ _ _ (at .past .ensures) _ (c .before .before .before .before .before .first2 .given .1) (room-off _ _ _ (c .before .before .before .past-sized .ensures) _ (c .before .second .given .1)))
 
 returns-3 : tie.Need-returns-3
 unfolding envelopeLength
-returns-3 c = rw (← c .before .before .before .before .before .before .before .before .before .varint-len .ensures) (room-then _ _ _ (c .before .before .before .before .before .before .before .before .past .ensures) _ (c .before .before .before .before .before .before .first2 .given .1) (room-then _ _ _ (c .before .before .before .before .past-sized .ensures) _ (c .before .before .second2 .given .1) (c .past-sized2 .ensures)))
+returns-3 c =
+    let at = c .before .before .before .before .before .before in
+    rw (← at .before .before .before .varint-len .ensures) (room-then _ _ _ (at .before .before .past .ensures) _ (at .first2 .given .1) (room-then _ _ _ (c .before .before .before .before .past-sized .ensures) _ (c .before .before .second2 .given .1) (c .past-sized2 .ensures)))
 
 pub past-envelope-spec : {M : Type 1} → statement M
 past-envelope-spec =

@@ -1,5 +1,5 @@
 use borrow.Author.Needs.{needs}
-use Rattle.codec.proofs.Writer.{next-room, refused-room, wrote, short-area, length-sized}
+use Rattle.codec.proofs.WriterLaws.{next-room, refused-room, wrote, short-area, length-sized}
 use Rattle.codec.proofs.put_bytes.Statement.{statement}
 use Rattle.codec.proofs.put_bytes.Tie as tie
 

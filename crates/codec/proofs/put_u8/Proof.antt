@@ -1,7 +1,7 @@
 use mathlib.Core.Path.{refl}
 use native.Mathlib.Omega.{arith}
 use borrow.Author.Needs.{needs}
-use Rattle.codec.proofs.Writer.{wrote, short-area, put-one}
+use Rattle.codec.proofs.WriterLaws.{wrote, short-area, put-one}
 use Rattle.codec.proofs.put_u8.Statement.{statement}
 use Rattle.codec.proofs.put_u8.Tie as tie
 

@@ -1,6 +1,6 @@
 use native.Mathlib.Omega.{arith}
 use borrow.Author.Needs.{needs}
-use Rattle.codec.proofs.Writer.{next-room, refused-room, wrote, short-area}
+use Rattle.codec.proofs.WriterLaws.{next-room, refused-room, wrote, short-area}
 use Rattle.codec.proofs.put_varint.Statement.{statement}
 use Rattle.codec.proofs.put_varint.Tie as tie
 
@@ -23,7 +23,9 @@ same-length : tie.Need-same-length
 same-length c = search needs
 
 returns : tie.Need-returns
-returns c = wrote _ _ _ (rw (← c .before .before .before .before .before .before .before .varint-len .ensures) (next-room _ _ _ (c .before .before .before .before .before .before .past .ensures) (c .before .before .before .before .enum-told .given .1) .1)) (c .before .before .store-varint .ensures)
+returns c =
+    let at = c .before .before .before .before .before .before in
+    wrote _ _ _ (rw (← at .before .varint-len .ensures) (next-room _ _ _ (at .past .ensures) (c .before .before .before .before .enum-told .given .1) .1)) (c .before .before .store-varint .ensures)
 
 returns-2 : tie.Need-returns-2
 returns-2 c = short-area _ _ _ (omega (arith, refused-room _ _ _ (c .before .before .before .past .ensures) (c .before .end .given .1) .1, c .before .before .before .before .varint-len .ensures)) (refused-room _ _ _ (c .before .before .before .past .ensures) (c .before .end .given .1) .0)

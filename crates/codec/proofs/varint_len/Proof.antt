@@ -1,7 +1,7 @@
 use native.Mathlib.Omega.{arith}
 use lib.Count.{leading-le}
 use borrow.Author.Needs.{needs}
-use Rattle.codec.proofs.Writer.{length-bits}
+use Rattle.codec.proofs.WriterLaws.{length-bits}
 use Rattle.codec.proofs.varint_len.Statement.{statement}
 use Rattle.codec.proofs.varint_len.Tie as tie
 

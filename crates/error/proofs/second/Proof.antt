@@ -4,203 +4,153 @@ use Rattle.error.proofs.second.Tie as tie
 use Rattle.error.proofs.second.Reads as reads
 use Rattle.error.proofs.second.Lts as lts
 
--- src/lib.rt:137:34
 enum-told : tie.Need-enum-told
 enum-told c = search needs
 
--- src/lib.rt:138:31
 enum-told-2 : tie.Need-enum-told-2
 enum-told-2 c = search needs
 
--- src/lib.rt:139:32
 enum-told-3 : tie.Need-enum-told-3
 enum-told-3 c = search needs
 
--- src/lib.rt:140:34
 enum-told-4 : tie.Need-enum-told-4
 enum-told-4 c = search needs
 
--- src/lib.rt:141:43
 enum-known-r : tie.Need-enum-known-r
 enum-known-r c = search needs
 
--- src/lib.rt:142:43
 enum-known-r-2 : tie.Need-enum-known-r-2
 enum-known-r-2 c = search needs
 
--- src/lib.rt:143:43
 enum-known-r-3 : tie.Need-enum-known-r-3
 enum-known-r-3 c = search needs
 
--- src/lib.rt:144:46
 enum-known-r-4 : tie.Need-enum-known-r-4
 enum-known-r-4 c = search needs
 
--- src/lib.rt:145:44
 enum-known-r-5 : tie.Need-enum-known-r-5
 enum-known-r-5 c = search needs
 
--- src/lib.rt:146:40
 enum-known-r-6 : tie.Need-enum-known-r-6
 enum-known-r-6 c = search needs
 
--- src/lib.rt:147:42
 enum-known-r-7 : tie.Need-enum-known-r-7
 enum-known-r-7 c = search needs
 
--- src/lib.rt:148:43
 enum-known-r-8 : tie.Need-enum-known-r-8
 enum-known-r-8 c = search needs
 
--- src/lib.rt:149:39
 enum-known-r-9 : tie.Need-enum-known-r-9
 enum-known-r-9 c = search needs
 
--- src/lib.rt:150:47
 enum-told-5 : tie.Need-enum-told-5
 enum-told-5 c = search needs
 
--- src/lib.rt:151:44
 enum-told-6 : tie.Need-enum-told-6
 enum-told-6 c = search needs
 
--- src/lib.rt:152:45
 enum-known-r-10 : tie.Need-enum-known-r-10
 enum-known-r-10 c = search needs
 
--- src/lib.rt:153:29
 enum-told-7 : tie.Need-enum-told-7
 enum-told-7 c = search needs
 
--- src/lib.rt:154:33
 enum-told-8 : tie.Need-enum-told-8
 enum-told-8 c = search needs
 
--- src/lib.rt:155:37
 enum-told-9 : tie.Need-enum-told-9
 enum-told-9 c = search needs
 
--- src/lib.rt:158:13
 enum-known-r-11 : tie.Need-enum-known-r-11
 enum-known-r-11 c = search needs
 
--- src/lib.rt:160:33
 enum-told-10 : tie.Need-enum-told-10
 enum-told-10 c = search needs
 
--- src/lib.rt:161:31
 enum-told-11 : tie.Need-enum-told-11
 enum-told-11 c = search needs
 
--- src/lib.rt:162:36
 enum-told-12 : tie.Need-enum-told-12
 enum-told-12 c = search needs
 
--- src/lib.rt:163:30
 enum-told-13 : tie.Need-enum-told-13
 enum-told-13 c = search needs
 
--- src/lib.rt:164:35
 enum-told-14 : tie.Need-enum-told-14
 enum-told-14 c = search needs
 
--- src/lib.rt:133:1
 returns : tie.Need-returns
 returns c = rw (c .enum-told .given .1)
 
--- src/lib.rt:133:1
 returns-2 : tie.Need-returns-2
 returns-2 c = rw (c .enum-told2 .given .1)
 
--- src/lib.rt:133:1
 returns-3 : tie.Need-returns-3
 returns-3 c = rw (c .enum-told3 .given .1)
 
--- src/lib.rt:133:1
 returns-4 : tie.Need-returns-4
 returns-4 c = rw (c .enum-told4 .given .1)
 
--- src/lib.rt:133:1
 returns-5 : tie.Need-returns-5
 returns-5 c = rw (c .before .r .given .1)
 
--- src/lib.rt:133:1
 returns-6 : tie.Need-returns-6
 returns-6 c = rw (c .before .r2 .given .1)
 
--- src/lib.rt:133:1
 returns-7 : tie.Need-returns-7
 returns-7 c = rw (c .before .r3 .given .1)
 
--- src/lib.rt:133:1
 returns-8 : tie.Need-returns-8
 returns-8 c = rw (c .before .r4 .given .1)
 
--- src/lib.rt:133:1
 returns-9 : tie.Need-returns-9
 returns-9 c = rw (c .before .r5 .given .1)
 
--- src/lib.rt:133:1
 returns-10 : tie.Need-returns-10
 returns-10 c = rw (c .before .r6 .given .1)
 
--- src/lib.rt:133:1
 returns-11 : tie.Need-returns-11
 returns-11 c = rw (c .before .r7 .given .1)
 
--- src/lib.rt:133:1
 returns-12 : tie.Need-returns-12
 returns-12 c = rw (c .before .r8 .given .1)
 
--- src/lib.rt:133:1
 returns-13 : tie.Need-returns-13
 returns-13 c = rw (c .before .r9 .given .1)
 
--- src/lib.rt:133:1
 returns-14 : tie.Need-returns-14
 returns-14 c = rw (c .enum-told5 .given .1)
 
--- src/lib.rt:133:1
 returns-15 : tie.Need-returns-15
 returns-15 c = rw (c .enum-told6 .given .1)
 
--- src/lib.rt:133:1
 returns-16 : tie.Need-returns-16
 returns-16 c = rw (c .before .r10 .given .1)
 
--- src/lib.rt:133:1
 returns-17 : tie.Need-returns-17
 returns-17 c = rw (c .enum-told7 .given .1)
 
--- src/lib.rt:133:1
 returns-18 : tie.Need-returns-18
 returns-18 c = rw (c .enum-told8 .given .1)
 
--- src/lib.rt:133:1
 returns-19 : tie.Need-returns-19
 returns-19 c = rw (c .enum-told9 .given .1)
 
--- src/lib.rt:133:1
 returns-20 : tie.Need-returns-20
 returns-20 c = rw (c .before .r11 .given .1)
 
--- src/lib.rt:133:1
 returns-21 : tie.Need-returns-21
 returns-21 c = rw (c .enum-told10 .given .1)
 
--- src/lib.rt:133:1
 returns-22 : tie.Need-returns-22
 returns-22 c = rw (c .enum-told11 .given .1)
 
--- src/lib.rt:133:1
 returns-23 : tie.Need-returns-23
 returns-23 c = rw (c .enum-told12 .given .1)
 
--- src/lib.rt:133:1
 returns-24 : tie.Need-returns-24
 returns-24 c = rw (c .enum-told13 .given .1)
 
--- src/lib.rt:133:1
 returns-25 : tie.Need-returns-25
 returns-25 c = rw (c .enum-told14 .given .1)
 

@@ -7,19 +7,15 @@ use Rattle.error.proofs.first.Reads as first-reads
 use Rattle.error.proofs.number.Reads as number-reads
 use Rattle.error.proofs.second.Reads as second-reads
 
--- src/lib.rt:180:17
 number-requires : tie.Need-number-requires
 number-requires c κs = search needs
 
--- src/lib.rt:181:16
 first-requires : tie.Need-first-requires
 first-requires c κs = search needs
 
--- src/lib.rt:182:17
 second-requires : tie.Need-second-requires
 second-requires c κs = search needs
 
--- src/lib.rt:176:1
 returns : tie.Need-returns
 returns c = λ i. record { number = c .before .before .number .ensures i; first = c .before .first .ensures i; second = c .second .ensures i }
 

@@ -1,5 +1,5 @@
 use mathlib.Core.Path.{_∙_}
-use Rattle.peer.specs.Places.{havingPings}
+use Rattle.peer.specs.inside.NoncePlaces.{havingPings}
 use borrow.Author.Needs.{needs}
 use Rattle.peer.proofs.with_ping.Statement.{statement}
 use Rattle.peer.proofs.with_ping.Tie as tie

@@ -2,13 +2,13 @@ use borrow.Author.Needs.{needs}
 use Prim.Native.Nat.{_+_, _-_}
 use native.Mathlib.Omega.{arith}
 use lib.ListN.{length}
-use Rattle.words.specs.Areas.{ZeroIn}
-use Rattle.words.specs.Choice.Tells.{yes, no}
+use Rattle.words.specs.Choice.Tells.{is-true, is-false}
 use Rattle.words.proofs.Words.{in-join, in-none, in-one, zero-in, zero-all}
 use Rattle.words.proofs.bytes_are_zero.Statement.{statement}
 use Rattle.words.proofs.bytes_are_zero.Tie as tie
 use Rattle.words.proofs.bytes_are_zero.Reads as reads
 use Rattle.words.proofs.bytes_are_zero.Lts as lts
+use Rattle.words.specs.inside.Moves.{ZeroIn}
 
 abbrev Inv-loop : tie.InvT-loop
 Inv-loop s i₀ i = ZeroIn s 0 i
@@ -23,7 +23,7 @@ shared-slice-read-if1 : tie.Need-shared-slice-read-if1 Inv-loop μ-loop
 shared-slice-read-if1 c = search needs
 
 returns : tie.Need-returns Inv-loop μ-loop
-returns c = no (λ z. search (needs, zero-in (c .before .before .before .before .args .s .now) 0 (c .before .before .before .loop .i + 1) (search needs) z (c .before .before .before .loop .i) (omega arith) (omega arith)))
+returns c = is-false (λ z. search (needs, zero-in (c .before .before .before .before .args .s .now) 0 (c .before .before .before .loop .i + 1) (search needs) z (c .before .before .before .loop .i) (omega arith) (omega arith)))
 
 add-i : tie.Need-add-i Inv-loop μ-loop
 add-i c = search needs
@@ -35,7 +35,7 @@ loop-again : tie.Need-loop-again Inv-loop μ-loop
 loop-again c = in-join (c .before .before .before .before .args .s .now) _ _ _ (c .before .before .before .loop .inv) (in-one (c .before .before .before .before .args .s .now) _ (search needs))
 
 returns-2 : tie.Need-returns-2 Inv-loop μ-loop
-returns-2 c = yes (zero-all (c .before .before .args .s .now) _ (search needs) (λ k l. c .before .loop .inv k (omega arith) l))
+returns-2 c = is-true (zero-all (c .before .before .args .s .now) _ (search needs) (λ k l. c .before .loop .inv k (omega arith) l))
 
 pub bytes-are-zero-spec : {M : Type 1} → statement M
 bytes-are-zero-spec =

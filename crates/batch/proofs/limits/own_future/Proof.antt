@@ -5,8 +5,8 @@ use mathlib.Core.List.{_∷_}
 use mathlib.Core.Logic.{⊎-elim}
 use native.Mathlib.Omega.{arith}
 use lib.ListN.{length, drop, getD, length-map}
-use Rattle.row.specs.Views.{depsOf}
-use Rattle.batch.proofs.Validating.{LeftOwn, own-other, own-below, own-found, own-none, value-length, value-next}
+use Rattle.row.specs.Values.{depsOf}
+use Rattle.batch.proofs.Validation.{LeftOwn, own-other, own-below, own-found, own-none, value-length, value-next}
 use Rattle.batch.proofs.limits.own_future.Statement.{statement}
 use Rattle.batch.proofs.limits.own_future.Tie as tie
 
@@ -44,7 +44,9 @@ element-copy-out-if2 : tie.Need-element-copy-out-if2 Inv-loop μ-loop
 element-copy-out-if2 c = omega (arith, numbers16 (c .before .before .before .before .before))
 
 returns : tie.Need-returns Inv-loop μ-loop
-returns c = own-found _ _ _ (c .before .before .before .before .before .before .loop .i) _ _ (next (c .before .before .before .before .before .before .before) (c .before .before .before .before .before .before .loop .i) (c .before .before .before .before .before .loop-test .taken)) (c .before .before .if1 .taken) (c .if2 .taken) (c .before .before .before .before .before .before .loop .inv .1)
+returns c =
+    let at = c .before .before .before .before .before .before in
+    own-found _ _ _ (at .loop .i) _ _ (next (at .before) (at .loop .i) (c .before .before .before .before .before .loop-test .taken)) (c .before .before .if1 .taken) (c .if2 .taken) (at .loop .inv .1)
 
 add-i : tie.Need-add-i Inv-loop μ-loop
 add-i c = search needs

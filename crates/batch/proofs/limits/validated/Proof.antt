@@ -1,7 +1,7 @@
 use borrow.Author.Needs.{needs}
 use mathlib.Core.Path.{ap}
 use Rattle.clock.specs.Vector.{outcomeOf}
-use Rattle.batch.proofs.Validating.{goes-refused, goes-done}
+use Rattle.batch.proofs.Validation.{goes-refused, goes-done}
 use Rattle.batch.proofs.limits.validated.Statement.{statement}
 use Rattle.batch.proofs.limits.validated.Tie as tie
 

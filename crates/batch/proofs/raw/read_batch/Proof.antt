@@ -1,6 +1,6 @@
-use Rattle.row.proofs.RowSteps.{num, no-num}
-use Rattle.batch.proofs.Counting.{no-count, over-count, batch-by-rows, ended-as}
-use Rattle.batch.proofs.Starting.{none-start, starts-by-rows}
+use Rattle.row.proofs.ReadSteps.{num, no-num}
+use Rattle.batch.proofs.BatchLoop.{no-count, over-count, batch-by-rows, ended-as}
+use Rattle.batch.proofs.RowStarts.{none-start, starts-by-rows}
 use borrow.Author.Needs.{needs}
 use Rattle.batch.proofs.raw.read_batch.Statement.{statement}
 use Rattle.batch.proofs.raw.read_batch.Tie as tie
@@ -33,7 +33,9 @@ same-length : tie.Need-same-length
 same-length c = search needs
 
 returns-3 : tie.Need-returns-3
-returns-3 c = (batch-by-rows _ _ _ (num _ _ (c .before .before .before .before .before .before .before .before .get-varint .ensures) (c .before .before .before .before .before .before .count .given .1)) (c .before .before .before .before .if1 .left) (c .before .before .read-rows .ensures .0), starts-by-rows _ _ _ _ _ _ (c .before .before .read-rows .ensures .0) (c .before .before .read-rows .ensures .1))
+returns-3 c =
+    let at = c .before .before .before .before .before .before in
+    (batch-by-rows _ _ _ (num _ _ (at .before .before .get-varint .ensures) (at .count .given .1)) (c .before .before .before .before .if1 .left) (c .before .before .read-rows .ensures .0), starts-by-rows _ _ _ _ _ _ (c .before .before .read-rows .ensures .0) (c .before .before .read-rows .ensures .1))
 
 pub read-batch-spec : {M : Type 1} → statement M
 read-batch-spec =

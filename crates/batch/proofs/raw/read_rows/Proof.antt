@@ -4,9 +4,9 @@ use mathlib.Core.Path.{_≡_, refl}
 use native.Mathlib.Omega.{arith}
 use lib.ListN.{length}
 use Rattle.clock.specs.Vector.{outcomeOf}
-use Rattle.batch.specs.Views.{limitsOf}
-use Rattle.batch.proofs.Counting.{Counting, counting-start, left-over, all-read, row-stops, counting-turn, rows-refused, ended-as}
-use Rattle.batch.proofs.Starting.{Starting, starting-start, starting-turn, all-noted, none-start}
+use Rattle.batch.specs.Settings.{limitsOf}
+use Rattle.batch.proofs.BatchLoop.{Counting, counting-start, left-over, all-read, row-stops, counting-turn, rows-refused, ended-as}
+use Rattle.batch.proofs.RowStarts.{Starting, starting-start, starting-turn, all-noted, none-start}
 use Rattle.batch.proofs.raw.read_rows.Statement.{statement}
 use Rattle.batch.proofs.raw.read_rows.Tie as tie
 
@@ -53,7 +53,9 @@ loop-less : tie.Need-loop-less Inv-loop μ-loop
 loop-less c = search needs
 
 loop-again : tie.Need-loop-again Inv-loop μ-loop
-loop-again c = (search needs, counting-turn (c .before .before .before .before .before .before .loop .inv .1) (c .before .before .before .before .before .loop-test .taken) (c .before .before .before .before .read-row .ensures) (c .before .before .reading2 .given .1) (c .validated .ensures), starting-turn (c .before .before .before .before .before .before .loop .inv .2) (search needs) (c .before .before .before .before .read-row .ensures) (c .before .before .reading2 .given .1))
+loop-again c =
+    let at = c .before .before .before .before .before .before in
+    (search needs, counting-turn (at .loop .inv .1) (c .before .before .before .before .before .loop-test .taken) (c .before .before .before .before .read-row .ensures) (c .before .before .reading2 .given .1) (c .validated .ensures), starting-turn (at .loop .inv .2) (search needs) (c .before .before .before .before .read-row .ensures) (c .before .before .reading2 .given .1))
 
 no-batch-requires-2 : tie.Need-no-batch-requires-2 Inv-loop μ-loop
 no-batch-requires-2 c κs = search needs

@@ -1,5 +1,5 @@
-use Rattle.batch.specs.Views.{limitsOf}
-use Rattle.batch.proofs.Validating.{many-held, many-deps, by-payload}
+use Rattle.batch.specs.Settings.{limitsOf}
+use Rattle.batch.proofs.Validation.{many-held, many-deps, by-payload}
 use Rattle.batch.proofs.settings.are_within.Statement.{statement}
 use Rattle.batch.proofs.settings.are_within.Tie as tie
 

@@ -3,8 +3,8 @@ use Prim.Native.Nat.{ℕ, _-_, _≤_}
 use native.Mathlib.Omega.{arith}
 use mathlib.Core.Path.{_≡_, refl, sym, _∙_}
 use lib.ListN.{length, drop, length-map}
-use Rattle.clock.proofs.Clocks.{sound-few}
-use Rattle.clock.proofs.Growing.{cover-turn, cover-not, cover-end}
+use Rattle.clock.proofs.ClockEntries.{sound-few}
+use Rattle.clock.proofs.ClockCalls.{cover-turn, cover-not, cover-end}
 use Rattle.clock.specs.Entries.{dominates}
 use Rattle.clock.specs.Vector.{entries}
 use Rattle.clock.proofs.raw.covers.Statement.{statement}
@@ -42,7 +42,9 @@ element-copy-out-want-2 : tie.Need-element-copy-out-want-2 Inv-loop μ-loop
 element-copy-out-want-2 c = omega (arith, sound-few (c .before .before .before .before .args .t2) (c .before .before .before .before .pre .1))
 
 returns : tie.Need-returns Inv-loop μ-loop
-returns c = cover-not (c .before .before .before .before .before .before .args .c) (c .before .before .before .before .before .before .args .t2) (c .before .before .before .before .before .before .pre .1) (authors32 (c .before .before .before .before .before .before)) (numbers32 (c .before .before .before .before .before .before)) (c .before .before .before .before .before .loop .i) _ _ (search needs) (c .before .before .get .ensures) refl (c .before .before .before .before .before .loop .inv .1) (c .if1 .taken)
+returns c =
+    let at = c .before .before .before .before .before .before in
+    cover-not (at .args .c) (at .args .t2) (at .pre .1) (authors32 (at)) (numbers32 (at)) (c .before .before .before .before .before .loop .i) _ _ (search needs) (c .before .before .get .ensures) refl (c .before .before .before .before .before .loop .inv .1) (c .if1 .taken)
 
 add-i : tie.Need-add-i Inv-loop μ-loop
 add-i c = search needs
@@ -51,7 +53,9 @@ loop-less : tie.Need-loop-less Inv-loop μ-loop
 loop-less c = search needs
 
 loop-again : tie.Need-loop-again Inv-loop μ-loop
-loop-again c = (search needs, cover-turn (c .before .before .before .before .before .before .args .c) (c .before .before .before .before .before .before .args .t2) (c .before .before .before .before .before .before .pre .1) (authors32 (c .before .before .before .before .before .before)) (numbers32 (c .before .before .before .before .before .before)) (c .before .before .before .before .before .loop .i) _ _ (search needs) (c .before .before .get .ensures) refl (c .before .before .before .before .before .loop .inv .1) (c .if1 .left))
+loop-again c =
+    let at = c .before .before .before .before .before .before in
+    (search needs, cover-turn (at .args .c) (at .args .t2) (at .pre .1) (authors32 (at)) (numbers32 (at)) (c .before .before .before .before .before .loop .i) _ _ (search needs) (c .before .before .get .ensures) refl (c .before .before .before .before .before .loop .inv .1) (c .if1 .left))
 
 returns-2 : tie.Need-returns-2 Inv-loop μ-loop
 returns-2 c = cover-end (c .before .before .args .c) (c .before .before .args .t2) (c .before .before .pre .1) (authors32 (c .before .before)) (numbers32 (c .before .before)) (c .before .loop .i) (omega arith) (c .before .loop .inv .1)

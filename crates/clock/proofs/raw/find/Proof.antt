@@ -3,7 +3,7 @@ use Prim.Native.Nat.{_-_, _≤_}
 use native.Mathlib.Omega.{arith}
 use mathlib.Core.Path.{refl}
 use lib.ListN.{take}
-use Rattle.clock.proofs.Placing.{Left, find-start, find-here, find-gap, find-turn, find-end}
+use Rattle.clock.proofs.AuthorSearch.{Left, find-start, find-here, find-gap, find-turn, find-end}
 use Rattle.clock.proofs.raw.find.Statement.{statement}
 use Rattle.clock.proofs.raw.find.Tie as tie
 

@@ -2,8 +2,8 @@ use Prim.Native.Nat.{ℕ}
 use native.Mathlib.Omega.{arith}
 use mathlib.Core.Path.{_≡_, sym, _∙_}
 use lib.ListN.{length, length-map}
-use Rattle.clock.proofs.Clocks.{sound-few}
-use Rattle.clock.proofs.Growing.{here-below, get-here, get-gap}
+use Rattle.clock.proofs.ClockEntries.{sound-few}
+use Rattle.clock.proofs.ClockCalls.{here-below, get-here, get-gap}
 use borrow.Author.Needs.{needs}
 use Rattle.clock.proofs.raw.get.Statement.{statement}
 use Rattle.clock.proofs.raw.get.Tie as tie
@@ -25,16 +25,22 @@ enum-known-place : tie.Need-enum-known-place
 enum-known-place c = search needs
 
 mul-result : tie.Need-mul-result
-mul-result c = omega (arith, sound-few (c .before .before .before .before .before .before .args .t1) (c .before .before .before .before .before .before .pre), here-below (c .before .before .before .before .before .before .args .t1) (c .before .before .before .before .before .before .pre) (authors32 (c .before .before .before .before .before .before)) (numbers32 (c .before .before .before .before .before .before)) (c .before .before .before .before .before .before .args .actor .0) 0 _ (sym (c .before .place .given .1) ∙ c .before .before .before .find .ensures))
+mul-result c =
+    let at = c .before .before .before .before .before .before in
+    omega (arith, sound-few (at .args .t1) (at .pre), here-below (at .args .t1) (at .pre) (authors32 (at)) (numbers32 (at)) (at .args .actor .0) 0 _ (sym (c .before .place .given .1) ∙ c .before .before .before .find .ensures))
 
 element-copy-out-result : tie.Need-element-copy-out-result
-element-copy-out-result c = omega (arith, numbers32 (c .before .before .before .before .before .before), sound-few (c .before .before .before .before .before .before .args .t1) (c .before .before .before .before .before .before .pre), here-below (c .before .before .before .before .before .before .args .t1) (c .before .before .before .before .before .before .pre) (authors32 (c .before .before .before .before .before .before)) (numbers32 (c .before .before .before .before .before .before)) (c .before .before .before .before .before .before .args .actor .0) 0 _ (sym (c .before .place .given .1) ∙ c .before .before .before .find .ensures))
+element-copy-out-result c =
+    let at = c .before .before .before .before .before .before in
+    omega (arith, numbers32 (at), sound-few (at .args .t1) (at .pre), here-below (at .args .t1) (at .pre) (authors32 (at)) (numbers32 (at)) (at .args .actor .0) 0 _ (sym (c .before .place .given .1) ∙ c .before .before .before .find .ensures))
 
 enum-told : tie.Need-enum-told
 enum-told c = search needs
 
 returns : tie.Need-returns
-returns c = get-here (c .before .before .before .before .before .before .before .args .t1) (c .before .before .before .before .before .before .before .pre) (authors32 (c .before .before .before .before .before .before .before)) (numbers32 (c .before .before .before .before .before .before .before)) (c .before .before .before .before .before .before .before .args .actor .0) 0 _ (sym (c .before .before .place .given .1) ∙ c .before .before .before .before .find .ensures)
+returns c =
+    let at = c .before .before .before .before .before .before .before in
+    get-here (at .args .t1) (at .pre) (authors32 (at)) (numbers32 (at)) (at .args .actor .0) 0 _ (sym (c .before .before .place .given .1) ∙ c .before .before .before .before .find .ensures)
 
 returns-2 : tie.Need-returns-2
 returns-2 c = get-gap (c .before .before .before .before .before .args .t1) (c .before .before .before .before .before .pre) (authors32 (c .before .before .before .before .before)) (numbers32 (c .before .before .before .before .before)) (c .before .before .before .before .before .args .actor .0) 0 _ (sym (c .enum-told .given .1) ∙ c .before .before .find .ensures)

@@ -5,7 +5,7 @@ use mathlib.Core.Path.{_≡_, refl}
 use lib.ListN.{length, getD, length-set}
 use Rattle.words.specs.Be.{get64}
 use Rattle.words.proofs.Puts.{fill-turn}
-use Rattle.clock.proofs.Stored.{column-is, word-moved}
+use Rattle.clock.proofs.ClockArea.{column-is, word-moved}
 use Rattle.clock.specs.Area.{clockAt}
 use Rattle.clock.proofs.raw.load_clock.Statement.{statement}
 use Rattle.clock.proofs.raw.load_clock.Tie as tie

@@ -4,8 +4,8 @@ use Prim.Native.Nat.{ℕ, _-_, _≤_}
 use native.Mathlib.Omega.{arith}
 use mathlib.Core.Path.{_≡_, refl, sym, _∙_, ap}
 use lib.ListN.{length, length-map}
-use Rattle.clock.proofs.Clocks.{sound-few}
-use Rattle.clock.proofs.Growing.{Merging, merge-start, merge-turn, merge-stop, merge-end}
+use Rattle.clock.proofs.ClockEntries.{sound-few}
+use Rattle.clock.proofs.ClockCalls.{Merging, merge-start, merge-turn, merge-stop, merge-end}
 use Rattle.clock.proofs.raw.merged.Statement.{statement}
 use Rattle.clock.proofs.raw.merged.Tie as tie
 
@@ -54,7 +54,10 @@ enum-told-2 : tie.Need-enum-told-2 Inv-loop μ-loop
 enum-told-2 c = search needs
 
 returns : tie.Need-returns Inv-loop μ-loop
-returns c = merge-stop (c .before .before .before .before .before .before .before .args .c) (c .before .before .before .before .before .before .before .args .t2) (c .before .before .before .before .before .before .loop .so-far) (c .before .before .before .before .before .before .before .pre .1) (authors32 (c .before .before .before .before .before .before .before)) (numbers32 (c .before .before .before .before .before .before .before)) (c .before .before .before .before .before .before .loop .i) (c .before .before .before .before .before .before .loop .inv .1) _ _ _ (search needs) refl refl (c .before .before .observed .ensures) _ (ap outcomeOf (c .enum-told2 .given .1))
+returns c =
+    let at = c .before .before .before .before .before .before in
+    let at₂ = at .before in
+    merge-stop (at₂ .args .c) (at₂ .args .t2) (at .loop .so-far) (at₂ .pre .1) (authors32 (at₂)) (numbers32 (at₂)) (at .loop .i) (at .loop .inv .1) _ _ _ (search needs) refl refl (c .before .before .observed .ensures) _ (ap outcomeOf (c .enum-told2 .given .1))
 
 add-i : tie.Need-add-i Inv-loop μ-loop
 add-i c = search needs
@@ -63,7 +66,10 @@ loop-less : tie.Need-loop-less Inv-loop μ-loop
 loop-less c = search needs
 
 loop-again : tie.Need-loop-again Inv-loop μ-loop
-loop-again c = (search needs, merge-turn (c .before .before .before .before .before .before .before .before .args .c) (c .before .before .before .before .before .before .before .before .args .t2) (c .before .before .before .before .before .before .before .loop .so-far) (c .before .before .before .before .before .before .before .before .pre .1) (authors32 (c .before .before .before .before .before .before .before .before)) (numbers32 (c .before .before .before .before .before .before .before .before)) (c .before .before .before .before .before .before .before .loop .i) (c .before .before .before .before .before .before .before .loop .inv .1) _ _ _ (search needs) refl refl (c .before .before .before .observed .ensures) (ap outcomeOf (c .before .enum-told .given .1)))
+loop-again c =
+    let at = c .before .before .before .before .before .before .before in
+    let at₂ = at .before in
+    (search needs, merge-turn (at₂ .args .c) (at₂ .args .t2) (at .loop .so-far) (at₂ .pre .1) (authors32 (at₂)) (numbers32 (at₂)) (at .loop .i) (at .loop .inv .1) _ _ _ (search needs) refl refl (c .before .before .before .observed .ensures) (ap outcomeOf (c .before .enum-told .given .1)))
 
 returns-2 : tie.Need-returns-2 Inv-loop μ-loop
 returns-2 c = merge-end (c .before .before .args .c) (c .before .before .args .t2) (c .before .loop .so-far) (c .before .before .pre .1) (authors32 (c .before .before)) (numbers32 (c .before .before)) (c .before .loop .i) (c .before .loop .inv .1) (omega arith)

@@ -1,6 +1,6 @@
 use Rattle.clock.specs.Entries.{observe}
 use Rattle.clock.specs.Vector.{entries}
-use Rattle.clock.proofs.Growing.{grown-clock}
+use Rattle.clock.proofs.ClockCalls.{grown-clock}
 use borrow.Author.Needs.{needs}
 use Rattle.clock.proofs.raw.observe.Statement.{statement}
 use Rattle.clock.proofs.raw.observe.Tie as tie

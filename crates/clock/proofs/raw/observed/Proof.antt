@@ -1,6 +1,6 @@
 use borrow.Author.Needs.{needs}
 use mathlib.Core.Path.{sym, _∙_, ap}
-use Rattle.clock.specs.Rows.{roomOf}
+use Rattle.clock.specs.inside.Columns.{roomOf}
 use Rattle.clock.proofs.raw.observed.Statement.{statement}
 use Rattle.clock.proofs.raw.observed.Tie as tie
 use Rattle.clock.proofs.raw.observed.Reads as reads

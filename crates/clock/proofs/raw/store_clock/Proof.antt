@@ -4,12 +4,12 @@ use native.Mathlib.Omega.{arith}
 use mathlib.Core.Path.{_≡_, sym, _∙_}
 use lib.ListN.{length, length-map}
 use Rattle.words.specs.Areas.{putAt}
-use Rattle.clock.proofs.Stored.{rowsOf, store-start, store-turn, store-end}
+use Rattle.clock.proofs.ClockArea.{entryBytes, store-start, store-turn, store-end}
 use Rattle.clock.proofs.raw.store_clock.Statement.{statement}
 use Rattle.clock.proofs.raw.store_clock.Tie as tie
 
 abbrev Inv-loop : tie.InvT-loop
-Inv-loop s₀ at c i₀ s i = (i ≤ 32) × (length s ≡ length s₀) × (s ≡ putAt s₀ (at + 8) (rowsOf c i))
+Inv-loop s₀ at c i₀ s i = (i ≤ 32) × (length s ≡ length s₀) × (s ≡ putAt s₀ (at + 8) (entryBytes c i))
 
 abbrev μ-loop : tie.MeasureT-loop
 μ-loop s₀ at c i₀ s i = 32 - i
@@ -64,13 +64,19 @@ loop-less : tie.Need-loop-less Inv-loop μ-loop
 loop-less c = search needs
 
 loop-again : tie.Need-loop-again Inv-loop μ-loop
-loop-again c = (search needs, search needs, store-turn (c .before .before .before .before .before .before .before .before .before .before .before .before .before .before .before .before .before .args .t3) (authors32 (c .before .before .before .before .before .before .before .before .before .before .before .before .before .before .before .before .before)) (numbers32 (c .before .before .before .before .before .before .before .before .before .before .before .before .before .before .before .before .before)) (c .before .before .before .before .before .before .before .before .before .before .before .loop .i) (search needs) _ _ _ _ (c .before .before .before .before .before .before .before .before .before .before .before .before .before .before .before .before .before .args .at) (omega (arith, c .before .before .before .before .before .before .before .before .before .before .before .before .before .before .before .before .before .pre, c .before .before .before .before .before .before .before .before .before .before .before .before .before .before .put-word .kept .0)) (c .before .before .before .before .before .before .before .before .before .before .before .loop .inv .2) (c .before .before .before .before .before .before .before .put-word2 .ensures) (c .before .before .put-word3 .ensures))
+loop-again c =
+    let at = c .before .before .before .before .before .before .before in
+    let at₂ = at .before .before .before .before in
+    let at₃ = at₂ .before .before .before .before .before .before in
+    (search needs, search needs, store-turn (at₃ .args .t3) (authors32 (at₃)) (numbers32 (at₃)) (at₂ .loop .i) (search needs) _ _ _ _ (at₃ .args .at) (omega (arith, at₃ .pre, at₂ .before .before .before .put-word .kept .0)) (at₂ .loop .inv .2) (at .put-word2 .ensures) (c .before .before .put-word3 .ensures))
 
 same-length : tie.Need-same-length Inv-loop μ-loop
 same-length c = search needs
 
 returns : tie.Need-returns Inv-loop μ-loop
-returns c = store-end (c .before .before .before .before .before .before .before .args .t3) (authors32 (c .before .before .before .before .before .before .before)) (numbers32 (c .before .before .before .before .before .before .before)) _ _ _ (c .before .before .before .before .before .before .before .args .at) (c .before .loop .i) (c .before .before .before .before .before .before .before .pre) (omega arith) (c .before .before .before .before .put-word .ensures) (c .before .loop .inv .2)
+returns c =
+    let at = c .before .before .before .before .before .before .before in
+    store-end (at .args .t3) (authors32 (at)) (numbers32 (at)) _ _ _ (at .args .at) (c .before .loop .i) (at .pre) (omega arith) (c .before .before .before .before .put-word .ensures) (c .before .loop .inv .2)
 
 pub store-clock-spec : {M : Type 1} → statement M
 store-clock-spec =

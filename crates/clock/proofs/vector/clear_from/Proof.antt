@@ -2,7 +2,7 @@ use borrow.Author.Needs.{needs}
 use Prim.Native.Nat.{_-_, _≤_}
 use native.Mathlib.Omega.{arith}
 use mathlib.Core.Path.{refl}
-use Rattle.clock.proofs.Sounding.{Clear, clear-turn, clear-not, clear-end}
+use Rattle.clock.proofs.ClockRules.{Clear, clear-turn, clear-not, clear-end}
 use Rattle.clock.proofs.vector.clear_from.Statement.{statement}
 use Rattle.clock.proofs.vector.clear_from.Tie as tie
 

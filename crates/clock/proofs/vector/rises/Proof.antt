@@ -1,7 +1,7 @@
 use borrow.Author.Needs.{needs}
 use Prim.Native.Nat.{_-_, _≤_}
 use native.Mathlib.Omega.{arith}
-use Rattle.clock.proofs.Sounding.{Rest, rises-start, rises-turn, rises-not, rises-end}
+use Rattle.clock.proofs.ClockRules.{Rest, rises-start, rises-turn, rises-not, rises-end}
 use Rattle.clock.proofs.vector.rises.Statement.{statement}
 use Rattle.clock.proofs.vector.rises.Tie as tie
 

@@ -1,6 +1,6 @@
 use native.Mathlib.Omega.{arith}
 use borrow.Author.Needs.{needs}
-use Rattle.codec.proofs.Writer.{room-no, room-yes}
+use Rattle.codec.proofs.WriterLaws.{room-no, room-yes}
 use Rattle.codec.proofs.raw.past.Statement.{statement}
 use Rattle.codec.proofs.raw.past.Tie as tie
 

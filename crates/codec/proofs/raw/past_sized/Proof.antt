@@ -1,6 +1,6 @@
 use borrow.Author.Needs.{needs}
-use Rattle.codec.specs.Parts.{sizedLength}
-use Rattle.codec.proofs.Writer.{room-then, room-off}
+use Rattle.codec.specs.inside.EnvelopeParts.{sizedLength}
+use Rattle.codec.proofs.WriterLaws.{room-then, room-off}
 use Rattle.codec.proofs.raw.past_sized.Statement.{statement}
 use Rattle.codec.proofs.raw.past_sized.Tie as tie
 

@@ -1,5 +1,5 @@
 use borrow.Author.Needs.{needs}
-use Rattle.codec.proofs.Writer.{Going, start, inside, turn, last}
+use Rattle.codec.proofs.WriterLaws.{Going, start, inside, turn, last}
 use Rattle.codec.proofs.raw.store_varint.Statement.{statement}
 use Rattle.codec.proofs.raw.store_varint.Tie as tie
 

@@ -1,5 +1,5 @@
 -- `reader::finish` meets its contract: the walk `goes-seeing`, over `Reader::finish`.
--- Assumes nothing.
+--
 use mathlib.Core.Path.{_≡_}
 use denote.Enum.Laws as EL
 use Rattle.codec.specs.Reading.{finish, finishedAt}
@@ -8,7 +8,7 @@ use Rattle.codec.proofs.Finished.Laws as F′
 use contract.Running.{givenOf, tables, tablesOf}
 use denote.Triple.Spec.{tripleOf}
 use denote.Triple.Table.{entered, cited}
-use Rattle.codec.proofs.Seeing.{goes-seeing}
+use Rattle.codec.proofs.WalkFinish.{goes-seeing}
 use Rattle.codec.proofs.reader.Reader.finish as method
 use Rattle.codec.proofs.reader.Reader.finish.Symbol as method-def
 use Rattle.codec.proofs.reader.Reader.finish.Symbol.{name as #method}

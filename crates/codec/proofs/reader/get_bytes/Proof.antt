@@ -1,5 +1,5 @@
 -- `reader::get_bytes` meets its contract: a walk of its MIR, by hand. A reader is made in a local, which is lent to `Reader::bytes` for a lifetime of the call, and taken back; of the answer the place is handed on.
--- Assumes nothing.
+--
 use mathlib.Core.Path.{_≡_, refl, ap, subst}
 use Prim.Native.Nat.{ℕ, _<_, _^_}
 use mathlib.Core.List.{[], _∷_, List}
@@ -44,8 +44,8 @@ use Rattle.codec.specs.Readers.{ReadsBytes, readBy, moved}
 use Rattle.codec.specs.declared.PartRead.{PartRead}
 use Rattle.codec.specs.declared.reader.BytesRead.{BytesRead}
 use Rattle.codec.specs.declared.reader.Reader.{Reader}
-use Rattle.codec.proofs.Apart.{α, B}
-use Rattle.codec.proofs.Lent.{cell, own, ref, make, toks, Kept, by-mut, lend, back}
+use Rattle.codec.proofs.ReaderParts.{α, B}
+use Rattle.codec.proofs.LentReader.{cell, own, ref, make, toks, Kept, by-mut, lend, back}
 use Rattle.codec.proofs.PartRead as P
 use Rattle.codec.proofs.PartRead.Laws as P′
 use Rattle.codec.proofs.reader.BytesRead as S

@@ -1,5 +1,5 @@
 -- `reader::get_count` meets its contract: a walk of its MIR, by hand, as `Through.antt`'s with one number more. A reader is made in a local, which is lent to `Reader::count` for a lifetime of the call, and taken back.
--- Assumes nothing.
+--
 use mathlib.Core.Path.{_≡_, refl}
 use Prim.Native.Nat.{ℕ, _<_, _^_}
 use mathlib.Core.List.{[], _∷_, List}
@@ -41,9 +41,9 @@ use denote.Exit.{yes}
 use Rattle.codec.specs.Reading.{getCount, gotNumber}
 use Rattle.codec.specs.declared.NumberRead.{NumberRead}
 use Rattle.codec.specs.declared.reader.Reader.{Reader}
-use Rattle.codec.proofs.Apart.{B}
-use Rattle.codec.proofs.Lent.{cell, own, ref, make, toks, Kept, by-mut, lend, back}
-use Rattle.codec.proofs.WalkNumber.{Said}
+use Rattle.codec.proofs.ReaderParts.{B}
+use Rattle.codec.proofs.LentReader.{cell, own, ref, make, toks, Kept, by-mut, lend, back}
+use Rattle.codec.proofs.WalkReaderVarint.{Said}
 use Rattle.codec.proofs.NumberRead as N
 use Rattle.codec.proofs.NumberRead.Laws as N′
 use Rattle.codec.proofs.reader.Reader.Laws as T′

@@ -1,10 +1,10 @@
 -- `reader::get_u8` meets its contract: the walk `goes-through`, over `Reader::u8`.
--- Assumes nothing.
+--
 use contract.Running.{givenOf, tables, tablesOf}
 use denote.Triple.Spec.{tripleOf}
 use denote.Triple.Table.{entered, cited}
 use Rattle.codec.specs.Reading.{getU8}
-use Rattle.codec.proofs.Through.{goes-through}
+use Rattle.codec.proofs.WalkVarint.{goes-through}
 use Rattle.codec.proofs.reader.Reader.u8 as method
 use Rattle.codec.proofs.reader.Reader.u8.Symbol as method-def
 use Rattle.codec.proofs.reader.Reader.u8.Symbol.{name as #method}

@@ -1,10 +1,10 @@
 -- `reader::get_varint` meets its contract: the walk `goes-through`, over `Reader::varint`.
--- Assumes nothing.
+--
 use contract.Running.{givenOf, tables, tablesOf}
 use denote.Triple.Spec.{tripleOf}
 use denote.Triple.Table.{entered, cited}
 use Rattle.codec.specs.Reading.{getVarint}
-use Rattle.codec.proofs.Through.{goes-through}
+use Rattle.codec.proofs.WalkVarint.{goes-through}
 use Rattle.codec.proofs.reader.Reader.varint as method
 use Rattle.codec.proofs.reader.Reader.varint.Symbol as method-def
 use Rattle.codec.proofs.reader.Reader.varint.Symbol.{name as #method}

@@ -1,6 +1,6 @@
 -- `reader::read_envelope` meets its contract: a walk of its MIR, by hand. A reader is made by `new` and stored in a local, which is lent to each read in turn, by `Lent.antt`'s steps; `envelope_of` makes the answer.
 -- Between two calls the context is the local's cell, what the reader owns, the token, what the slice owns, and the other locals.
--- Assumes nothing.
+--
 use mathlib.Core.Path.{_≡_, refl, ap, subst, _∙_}
 use Prim.Native.Nat.{ℕ, _<_}
 use mathlib.Core.List.{[], _∷_, List}
@@ -43,17 +43,17 @@ use denote.Triple.Walked.{says, Stays, stay-none-slice, walkOf, goes-none-slice,
 use denote.Exit.{yes}
 use Rattle.codec.specs.Reading.{getVarint, getBytes, finish, gotNumber, gotPart, finishedAt}
 use Rattle.codec.specs.Envelopes.{envelopeOf, readEnvelope, maxFrame, maxSignature}
-use Rattle.codec.specs.Readers.{ReadsBytes, readBy, moved, envelopeBy}
+use Rattle.codec.specs.Readers.{ReadsBytes, readBy, moved}
 use Rattle.codec.specs.declared.NumberRead.{NumberRead}
 use Rattle.codec.specs.declared.PartRead.{PartRead}
 use Rattle.codec.specs.declared.Finished.{Finished}
 use Rattle.codec.specs.declared.EnvelopeRead.{EnvelopeRead}
 use Rattle.codec.specs.declared.reader.Reader.{Reader}
 use Rattle.codec.specs.declared.reader.BytesRead.{BytesRead}
-use Rattle.codec.proofs.Apart.{α, B}
-use Rattle.codec.proofs.Lent.{cell, own, ref, toks, Kept, by-mut, lend, back, Kept-shr, by-shr, lend-shr, back-shr, big-lit}
-use Rattle.codec.proofs.Taken.{enveloped}
-use Rattle.codec.proofs.WalkNumber.{Said}
+use Rattle.codec.proofs.ReaderParts.{α, B}
+use Rattle.codec.proofs.LentReader.{cell, own, ref, toks, Kept, by-mut, lend, back, Kept-shr, by-shr, lend-shr, back-shr, big-lit}
+use Rattle.codec.proofs.ReadParts.{enveloped}
+use Rattle.codec.proofs.WalkReaderVarint.{Said}
 use Rattle.codec.proofs.NumberRead as N
 use Rattle.codec.proofs.NumberRead.Laws as N′
 use Rattle.codec.proofs.PartRead as P
@@ -90,6 +90,7 @@ use Rattle.codec.proofs.reader.read_envelope.Key.{name as #read-envelop
 use Rattle.codec.proofs.reader.read_envelope as self
 use Rattle.codec.proofs.reader.read_envelope.Statement as stated
 use Rattle.codec.proofs.reader.read_envelope.Code as code
+use Rattle.codec.specs.inside.EnvelopeParts.{envelopeBy}
 
 abbrev stayed : Stays (self.ended .signature .params) (self.ended .kept)
 stayed = (stay-none-slice (0 ∷ []) tt (plain (λ _. u8)) yes, tt)

@@ -1,5 +1,5 @@
 -- `reader::remaining` meets its contract: the walk `goes-seeing`, over `Reader::remaining`.
--- Assumes nothing.
+--
 use mathlib.Core.Path.{_≡_}
 use Prim.Native.Nat.{_-_}
 use lib.ListN.{length}
@@ -9,7 +9,7 @@ use denote.Plain.{uint-lawful}
 use contract.Running.{givenOf, tables, tablesOf}
 use denote.Triple.Spec.{tripleOf}
 use denote.Triple.Table.{entered, cited}
-use Rattle.codec.proofs.Seeing.{goes-seeing}
+use Rattle.codec.proofs.WalkFinish.{goes-seeing}
 use Rattle.codec.proofs.reader.Reader.remaining as method
 use Rattle.codec.proofs.reader.Reader.remaining.Symbol as method-def
 use Rattle.codec.proofs.reader.Reader.remaining.Symbol.{name as #method}

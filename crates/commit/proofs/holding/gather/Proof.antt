@@ -1,5 +1,5 @@
 use borrow.Author.Needs.{needs}
-use Rattle.commit.proofs.Places.{Gathering, gather-start, gather-from, gather-held, gather-batch, gather-end}
+use Rattle.commit.proofs.HeldSlots.{Gathering, gather-start, gather-from, gather-held, gather-batch, gather-end}
 use native.Mathlib.Omega.{arith}
 use mathlib.Core.Logic.{⊎-elim}
 use Prim.Native.Nat.{_-_}

@@ -1,4 +1,4 @@
-use Rattle.commit.proofs.Moving.{slot-same, slot-moved-down}
+use Rattle.commit.proofs.SlotWrites.{slot-same, slot-moved-down}
 use native.Mathlib.Omega.{arith}
 use borrow.Author.Needs.{needs}
 use Rattle.commit.proofs.holding.slot_down.Statement.{statement}

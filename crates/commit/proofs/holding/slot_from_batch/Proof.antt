@@ -1,4 +1,4 @@
-use Rattle.commit.proofs.Moving.{slot-lent, row-fits, slot-written}
+use Rattle.commit.proofs.SlotWrites.{slot-lent, row-fits, slot-written}
 use mathlib.Core.Path.{refl}
 use native.Mathlib.Omega.{arith}
 use borrow.Author.Needs.{needs}
@@ -30,13 +30,17 @@ part-write-slot-end : tie.Need-part-write-slot-end
 part-write-slot-end c = search needs
 
 write-slot-requires : tie.Need-write-slot-requires
-write-slot-requires c κs = (slot-lent (c .before .before .before .before .before .before .before .args .held .now) (c .before .before .before .before .before .before .before .args .p) (omega arith) (omega arith), row-fits _ _ _ (c .before .before .before .before .read-row .ensures) (c .before .before .before .before .before .before .before .pre .0))
+write-slot-requires c κs =
+    let at = c .before .before .before .before .before .before .before in
+    (slot-lent (at .args .held .now) (at .args .p) (omega arith) (omega arith), row-fits _ _ _ (c .before .before .before .before .read-row .ensures) (at .pre .0))
 
 same-length : tie.Need-same-length
 same-length c = search needs
 
 returns : tie.Need-returns
-returns c = slot-written _ _ _ (c .before .before .before .before .before .before .before .read-row .ensures) (c .before .before .before .before .before .before .before .before .before .before .pre .0) _ _ _ _ _ (omega arith) (omega arith) refl (c .before .before .write-slot .ensures)
+returns c =
+    let at = c .before .before .before .before .before .before .before in
+    slot-written _ _ _ (at .read-row .ensures) (at .before .before .before .pre .0) _ _ _ _ _ (omega arith) (omega arith) refl (c .before .before .write-slot .ensures)
 
 pub slot-from-batch-spec : {M : Type 1} → statement M
 slot-from-batch-spec =

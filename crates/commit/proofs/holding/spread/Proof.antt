@@ -1,5 +1,5 @@
 use borrow.Author.Needs.{needs}
-use Rattle.commit.proofs.Places.{Spreading, spread-start, spread-left, spread-held, spread-batch, spread-read, spread-end}
+use Rattle.commit.proofs.HeldSlots.{Spreading, spread-start, spread-left, spread-held, spread-batch, spread-read, spread-end}
 use native.Mathlib.Omega.{arith}
 use Rattle.commit.proofs.holding.spread.Statement.{statement}
 use Rattle.commit.proofs.holding.spread.Tie as tie
@@ -32,7 +32,9 @@ loop-less : tie.Need-loop-less Inv-loop μ-loop
 loop-less c = search needs
 
 loop-again : tie.Need-loop-again Inv-loop μ-loop
-loop-again c = spread-held _ _ _ _ _ _ _ _ _ (c .before .before .before .before .before .get-word .ensures) (c .before .before .before .before .before .before .loop-test .taken) (c .before .before .before .before .before .before .before .loop .inv) _ (c .before .before .before .before .if1 .taken) (c .before .before .slot-up .ensures)
+loop-again c =
+    let at = c .before .before .before .before .before .before in
+    spread-held _ _ _ _ _ _ _ _ _ (c .before .before .before .before .before .get-word .ensures) (at .loop-test .taken) (at .before .loop .inv) _ (c .before .before .before .before .if1 .taken) (c .before .before .slot-up .ensures)
 
 slot-from-batch-requires : tie.Need-slot-from-batch-requires Inv-loop μ-loop
 slot-from-batch-requires c κs = (spread-read _ _ _ _ _ _ _ _ _ (c .before .before .get-word .ensures) (c .before .before .before .loop-test .taken) (c .before .before .before .before .loop .inv) (c .before .before .before .before .before .before .before .before .pre .4) (c .before .if1 .left), omega arith, omega arith)
@@ -41,7 +43,9 @@ loop-less-2 : tie.Need-loop-less-2 Inv-loop μ-loop
 loop-less-2 c = search needs
 
 loop-again-2 : tie.Need-loop-again-2 Inv-loop μ-loop
-loop-again-2 c = spread-batch _ _ _ _ _ _ _ _ _ (c .before .before .before .before .before .get-word .ensures) (c .before .before .before .before .before .before .loop-test .taken) (c .before .before .before .before .before .before .before .loop .inv) _ (c .before .before .before .before .if1 .left) (c .before .before .slot-from-batch .ensures)
+loop-again-2 c =
+    let at = c .before .before .before .before .before .before in
+    spread-batch _ _ _ _ _ _ _ _ _ (c .before .before .before .before .before .get-word .ensures) (at .loop-test .taken) (at .before .loop .inv) _ (c .before .before .before .before .if1 .left) (c .before .before .slot-from-batch .ensures)
 
 same-length : tie.Need-same-length Inv-loop μ-loop
 same-length c = search needs

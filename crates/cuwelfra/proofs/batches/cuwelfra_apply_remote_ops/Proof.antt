@@ -9,37 +9,32 @@ use Rattle.cuwelfra.proofs.batches.cuwelfra_apply_remote_ops.Lts as lts
 use Rattle.cuwelfra.proofs.batches.merge_told.Reads as merge-told-reads
 use Rattle.merge.proofs.call.apply_remote_ops.Reads as apply-remote-ops-reads
 
--- src/batches.rt:82:16
 apply-remote-ops-requires : tie.Need-apply-remote-ops-requires
 apply-remote-ops-requires c κs = search needs
 
--- src/batches.rt:82:5
 merge-told-requires : tie.Need-merge-told-requires
 merge-told-requires c κs = search needs
 
--- src/batches.rt:54:1
 same-length : tie.Need-same-length
 same-length c = search needs
 
--- src/batches.rt:54:1
 same-length-2 : tie.Need-same-length-2
 same-length-2 c = search needs
 
--- src/batches.rt:54:1
 same-length-3 : tie.Need-same-length-3
 same-length-3 c = search needs
 
--- src/batches.rt:54:1
 same-length-4 : tie.Need-same-length-4
 same-length-4 c = search needs
 
--- src/batches.rt:54:1
 same-length-5 : tie.Need-same-length-5
 same-length-5 c = search needs
 
--- src/batches.rt:54:1
 returns : tie.Need-returns
-returns c = batch-told (areas (now (c .before .before .before .before .before .before .before .before .before .before .before .before .before .before .before .before .before .before .before .before .before .before .before .args .rows)) (now (c .before .before .before .before .before .before .before .before .before .before .before .before .before .before .before .before .before .before .before .before .before .before .before .args .held)) (now (c .before .before .before .before .before .before .before .before .before .before .before .before .before .before .before .before .before .before .before .before .before .before .before .args .head))) (record { «max_pending» = c .before .before .before .before .before .before .before .before .before .before .before .before .before .before .before .before .before .before .before .before .before .before .before .args .max-pending; «max_pending_per_actor» = c .before .before .before .before .before .before .before .before .before .before .before .before .before .before .before .before .before .before .before .before .before .before .before .args .max-pending-per-actor; «max_pending_bytes» = c .before .before .before .before .before .before .before .before .before .before .before .before .before .before .before .before .before .before .before .before .before .before .before .args .max-pending-bytes; «max_pending_age_ms» = c .before .before .before .before .before .before .before .before .before .before .before .before .before .before .before .before .before .before .before .before .before .before .before .args .max-pending-age-ms; «max_drift_ms» = c .before .before .before .before .before .before .before .before .before .before .before .before .before .before .before .before .before .before .before .before .before .before .before .args .max-drift-ms; «max_deps» = c .before .before .before .before .before .before .before .before .before .before .before .before .before .before .before .before .before .before .before .before .before .before .before .args .max-deps; «max_payload» = c .before .before .before .before .before .before .before .before .before .before .before .before .before .before .before .before .before .before .before .before .before .before .before .args .max-payload }) _ _ _ _ _ _ _ _ _ _ _ (c .before .before .before .before .before .before .before .before .before .before .before .apply-remote-ops .ensures) (c .merge-told .ensures)
+returns c =
+    let at = c .before .before .before .before .before .before .before .before .before .before .before in
+    let args = at .before .before .before .before .before .before .before .before .before .before .before .before .args in
+    batch-told (areas (now (args .log)) (now (args .held)) (now (args .head))) (record { «max_pending» = args .max-pending; «max_pending_per_actor» = args .max-pending-per-actor; «max_pending_bytes» = args .max-pending-bytes; «max_pending_age_ms» = args .max-pending-age-ms; «max_drift_ms» = args .max-drift-ms; «max_deps» = args .max-deps; «max_payload» = args .max-payload }) _ _ _ _ _ _ _ (at .apply-remote-ops .ensures) (c .merge-told .ensures)
 
 pub cuwelfra-apply-remote-ops-spec : {M : Type 1} → statement M
 cuwelfra-apply-remote-ops-spec =

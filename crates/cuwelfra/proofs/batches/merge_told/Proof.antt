@@ -6,27 +6,21 @@ use Rattle.cuwelfra.proofs.batches.merge_told.Lts as lts
 use Rattle.cuwelfra.proofs.bytes.accept.Reads as accept-reads
 use Rattle.error.proofs.tell.Reads as tell-reads
 
--- src/batches.rt:30:25
 enum-known-r : tie.Need-enum-known-r
 enum-known-r c = search needs
 
--- src/batches.rt:31:19
 accept-requires : tie.Need-accept-requires
 accept-requires c κs = search needs
 
--- src/batches.rt:40:26
 enum-known-r-2 : tie.Need-enum-known-r-2
 enum-known-r-2 c = search needs
 
--- src/batches.rt:41:19
 tell-requires : tie.Need-tell-requires
 tell-requires c κs = search needs
 
--- src/batches.rt:26:1
 returns : tie.Need-returns
 returns c = rw (c .before .before .r .given .1, c .accept .ensures)
 
--- src/batches.rt:26:1
 returns-2 : tie.Need-returns-2
 returns-2 c = rw (c .before .before .r2 .given .1, c .tell .ensures)
 

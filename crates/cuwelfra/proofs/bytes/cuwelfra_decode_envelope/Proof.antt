@@ -8,15 +8,12 @@ use Rattle.cuwelfra.proofs.bytes.cuwelfra_decode_envelope.Lts as lts
 use Rattle.codec.proofs.decode_envelope.Reads as decode-envelope-reads
 use Rattle.cuwelfra.proofs.bytes.envelope_told.Reads as envelope-told-reads
 
--- src/bytes.rt:232:19
 decode-envelope-requires : tie.Need-decode-envelope-requires
 decode-envelope-requires c κs = search needs
 
--- src/bytes.rt:232:5
 envelope-told-requires : tie.Need-envelope-told-requires
 envelope-told-requires c κs = search needs
 
--- src/bytes.rt:228:1
 returns : tie.Need-returns
 returns c = c .envelope-told .ensures ∙ ap envelopeTold (c .before .decode-envelope .ensures)
 

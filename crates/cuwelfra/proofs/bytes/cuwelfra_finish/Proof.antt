@@ -9,31 +9,24 @@ use Rattle.codec.proofs.reader.finish.Reads as finish-reads
 use Rattle.cuwelfra.proofs.bytes.accept.Reads as accept-reads
 use Rattle.error.proofs.tell.Reads as tell-reads
 
--- src/bytes.rt:180:9
 finish-requires : tie.Need-finish-requires
 finish-requires c κs = search needs
 
--- src/bytes.rt:182:27
 enum-told : tie.Need-enum-told
 enum-told c = search needs
 
--- src/bytes.rt:182:27
 accept-requires : tie.Need-accept-requires
 accept-requires c κs = search needs
 
--- src/bytes.rt:183:27
 enum-known-f : tie.Need-enum-known-f
 enum-known-f c = search needs
 
--- src/bytes.rt:183:39
 tell-requires : tie.Need-tell-requires
 tell-requires c κs = search needs
 
--- src/bytes.rt:176:1
 returns : tie.Need-returns
 returns c = c .accept .ensures ∙ ap toldBy (rw (c .before .enum-told .given .1) at (c .before .before .before .finish .ensures))
 
--- src/bytes.rt:176:1
 returns-2 : tie.Need-returns-2
 returns-2 c = c .tell .ensures ∙ ap toldBy (rw (c .before .before .f .given .1) at (c .before .before .before .before .finish .ensures))
 

@@ -8,15 +8,12 @@ use Rattle.cuwelfra.proofs.bytes.cuwelfra_get_bytes.Lts as lts
 use Rattle.codec.proofs.reader.get_bytes.Reads as get-bytes-reads
 use Rattle.cuwelfra.proofs.bytes.part.Reads as part-reads
 
--- src/bytes.rt:173:10
 get-bytes-requires : tie.Need-get-bytes-requires
 get-bytes-requires c κs = search needs
 
--- src/bytes.rt:173:5
 part-requires : tie.Need-part-requires
 part-requires c κs = search needs
 
--- src/bytes.rt:169:1
 returns : tie.Need-returns
 returns c = c .part .ensures ∙ ap partTold (c .before .get-bytes .ensures)
 

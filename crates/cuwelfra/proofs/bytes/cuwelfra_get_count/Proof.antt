@@ -8,15 +8,12 @@ use Rattle.cuwelfra.proofs.bytes.cuwelfra_get_count.Lts as lts
 use Rattle.codec.proofs.reader.get_count.Reads as get-count-reads
 use Rattle.cuwelfra.proofs.bytes.number.Reads as number-reads
 
--- src/bytes.rt:166:12
 get-count-requires : tie.Need-get-count-requires
 get-count-requires c κs = search needs
 
--- src/bytes.rt:166:5
 number-requires : tie.Need-number-requires
 number-requires c κs = search needs
 
--- src/bytes.rt:162:1
 returns : tie.Need-returns
 returns c = c .number .ensures ∙ ap numberTold (c .before .get-count .ensures)
 

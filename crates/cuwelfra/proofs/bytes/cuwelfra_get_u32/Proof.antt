@@ -8,15 +8,12 @@ use Rattle.cuwelfra.proofs.bytes.cuwelfra_get_u32.Lts as lts
 use Rattle.codec.proofs.get_u32.Reads as get-u32-reads
 use Rattle.cuwelfra.proofs.bytes.number.Reads as number-reads
 
--- src/bytes.rt:159:12
 get-u32-requires : tie.Need-get-u32-requires
 get-u32-requires c κs = search needs
 
--- src/bytes.rt:159:5
 number-requires : tie.Need-number-requires
 number-requires c κs = search needs
 
--- src/bytes.rt:155:1
 returns : tie.Need-returns
 returns c = c .number .ensures ∙ ap numberTold (c .before .get-u32 .ensures)
 

@@ -8,15 +8,12 @@ use Rattle.cuwelfra.proofs.bytes.cuwelfra_get_u8.Lts as lts
 use Rattle.codec.proofs.reader.get_u8.Reads as get-u8-reads
 use Rattle.cuwelfra.proofs.bytes.number.Reads as number-reads
 
--- src/bytes.rt:145:12
 get-u8-requires : tie.Need-get-u8-requires
 get-u8-requires c κs = search needs
 
--- src/bytes.rt:145:5
 number-requires : tie.Need-number-requires
 number-requires c κs = search needs
 
--- src/bytes.rt:141:1
 returns : tie.Need-returns
 returns c = c .number .ensures ∙ ap numberTold (c .before .get-u8 .ensures)
 

@@ -8,15 +8,12 @@ use Rattle.cuwelfra.proofs.bytes.cuwelfra_get_varint.Lts as lts
 use Rattle.codec.proofs.reader.get_varint.Reads as get-varint-reads
 use Rattle.cuwelfra.proofs.bytes.number.Reads as number-reads
 
--- src/bytes.rt:152:12
 get-varint-requires : tie.Need-get-varint-requires
 get-varint-requires c κs = search needs
 
--- src/bytes.rt:152:5
 number-requires : tie.Need-number-requires
 number-requires c κs = search needs
 
--- src/bytes.rt:148:1
 returns : tie.Need-returns
 returns c = c .number .ensures ∙ ap numberTold (c .before .get-varint .ensures)
 

@@ -1,5 +1,5 @@
-use mathlib.Core.Path.{_≡_, _∙_, ap}
 use Rattle.cuwelfra.specs.Bytes.{writtenTold}
+use Rattle.cuwelfra.proofs.ExportLaws.{exports}
 use borrow.Author.Needs.{needs}
 use Rattle.cuwelfra.proofs.bytes.cuwelfra_put_bytes.Statement.{statement}
 use Rattle.cuwelfra.proofs.bytes.cuwelfra_put_bytes.Tie as tie
@@ -8,21 +8,17 @@ use Rattle.cuwelfra.proofs.bytes.cuwelfra_put_bytes.Lts as lts
 use Rattle.codec.proofs.put_bytes.Reads as put-bytes-reads
 use Rattle.cuwelfra.proofs.bytes.written.Reads as written-reads
 
--- src/bytes.rt:138:13
 put-bytes-requires : tie.Need-put-bytes-requires
 put-bytes-requires c κs = search needs
 
--- src/bytes.rt:138:5
 written-requires : tie.Need-written-requires
 written-requires c κs = search needs
 
--- src/bytes.rt:134:1
 same-length : tie.Need-same-length
 same-length c = search needs
 
--- src/bytes.rt:134:1
 returns : tie.Need-returns
-returns c = record { answer = c .written .ensures ∙ ap writtenTold (c .before .before .before .put-bytes .ensures .answer); output = c .before .before .before .put-bytes .ensures .output }
+returns c = exports writtenTold _ _ _ _ (c .written .ensures) (c .before .before .before .put-bytes .ensures)
 
 pub cuwelfra-put-bytes-spec : {M : Type 1} → statement M
 cuwelfra-put-bytes-spec =

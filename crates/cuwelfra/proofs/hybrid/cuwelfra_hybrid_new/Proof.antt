@@ -8,15 +8,12 @@ use Rattle.cuwelfra.proofs.hybrid.cuwelfra_hybrid_new.Lts as lts
 use Rattle.clock.proofs.hybrid.HybridClock.new.Reads as new-reads
 use Rattle.cuwelfra.proofs.hybrid.hybrid_told.Reads as hybrid-told-reads
 
--- src/hybrid.rt:139:17
 new-requires : tie.Need-new-requires
 new-requires c κs = search needs
 
--- src/hybrid.rt:139:5
 hybrid-told-requires : tie.Need-hybrid-told-requires
 hybrid-told-requires c κs = search needs
 
--- src/hybrid.rt:135:1
 returns : tie.Need-returns
 returns c = c .hybrid-told .ensures ∙ ap hybridTold (c .before .new .ensures)
 

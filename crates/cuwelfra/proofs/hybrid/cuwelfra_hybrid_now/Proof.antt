@@ -11,19 +11,15 @@ use Rattle.clock.proofs.hybrid.HybridClock.now.Reads as now-reads
 use Rattle.cuwelfra.proofs.hybrid.clock_by.Reads as clock-by-reads
 use Rattle.cuwelfra.proofs.hybrid.issued_told.Reads as issued-told-reads
 
--- src/hybrid.rt:167:17
 clock-by-requires : tie.Need-clock-by-requires
 clock-by-requires c κs = search needs
 
--- src/hybrid.rt:167:17
 now-requires : tie.Need-now-requires
 now-requires c κs = search needs
 
--- src/hybrid.rt:167:5
 issued-told-requires : tie.Need-issued-told-requires
 issued-told-requires c κs = search needs
 
--- src/hybrid.rt:157:1
 returns : tie.Need-returns
 returns c = c .issued-told .ensures ∙ ap issuedTold (rw (c .before .before .clock-by .ensures) at (c .before .now .ensures))
 

@@ -9,19 +9,15 @@ use Rattle.clock.proofs.hybrid.HybridClock.set_max_drift.Reads as set-max-drift
 use Rattle.cuwelfra.proofs.hybrid.clock_by.Reads as clock-by-reads
 use Rattle.cuwelfra.proofs.hybrid.hybrid_told.Reads as hybrid-told-reads
 
--- src/hybrid.rt:152:17
 clock-by-requires : tie.Need-clock-by-requires
 clock-by-requires c κs = search needs
 
--- src/hybrid.rt:152:17
 set-max-drift-requires : tie.Need-set-max-drift-requires
 set-max-drift-requires c κs = search needs
 
--- src/hybrid.rt:152:5
 hybrid-told-requires : tie.Need-hybrid-told-requires
 hybrid-told-requires c κs = search needs
 
--- src/hybrid.rt:142:1
 returns : tie.Need-returns
 returns c = c .hybrid-told .ensures ∙ ap hybridTold (c .before .set-max-drift .ensures ∙ rw (c .before .before .clock-by .ensures))
 

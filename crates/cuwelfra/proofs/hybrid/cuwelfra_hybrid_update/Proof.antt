@@ -10,23 +10,18 @@ use Rattle.cuwelfra.proofs.hybrid.clock_by.Reads as clock-by-reads
 use Rattle.cuwelfra.proofs.hybrid.stamp_by.Reads as stamp-by-reads
 use Rattle.cuwelfra.proofs.hybrid.updated_told.Reads as updated-told-reads
 
--- src/hybrid.rt:183:18
 clock-by-requires : tie.Need-clock-by-requires
 clock-by-requires c κs = search needs
 
--- src/hybrid.rt:184:9
 stamp-by-requires : tie.Need-stamp-by-requires
 stamp-by-requires c κs = search needs
 
--- src/hybrid.rt:183:18
 update-requires : tie.Need-update-requires
 update-requires c κs = search needs
 
--- src/hybrid.rt:183:5
 updated-told-requires : tie.Need-updated-told-requires
 updated-told-requires c κs = search needs
 
--- src/hybrid.rt:170:1
 returns : tie.Need-returns
 returns c = c .updated-told .ensures ∙ ap updatedTold (rw (c .before .before .before .clock-by .ensures, c .before .before .stamp-by .ensures) at (c .before .update .ensures))
 

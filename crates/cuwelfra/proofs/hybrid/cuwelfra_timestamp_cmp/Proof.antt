@@ -8,39 +8,30 @@ use Rattle.cuwelfra.proofs.hybrid.cuwelfra_timestamp_cmp.Lts as lts
 use Rattle.clock.proofs.stamp.Timestamp.cmp.Reads as cmp-reads
 use Rattle.cuwelfra.proofs.hybrid.stamp_by.Reads as stamp-by-reads
 
--- src/hybrid.rt:127:13
 stamp-by-requires : tie.Need-stamp-by-requires
 stamp-by-requires c κs = search needs
 
--- src/hybrid.rt:127:54
 stamp-by-requires-2 : tie.Need-stamp-by-requires-2
 stamp-by-requires-2 c κs = search needs
 
--- src/hybrid.rt:127:9
 cmp-requires : tie.Need-cmp-requires
 cmp-requires c κs = search needs
 
--- src/hybrid.rt:129:27
 enum-told : tie.Need-enum-told
 enum-told c = search needs
 
--- src/hybrid.rt:130:28
 enum-told-2 : tie.Need-enum-told-2
 enum-told-2 c = search needs
 
--- src/hybrid.rt:131:30
 enum-told-3 : tie.Need-enum-told-3
 enum-told-3 c = search needs
 
--- src/hybrid.rt:116:1
 returns : tie.Need-returns
 returns c = ap orderNumber (sym (c .enum-told .given .1) ∙ (rw (c .before .before .before .before .stamp-by .ensures, c .before .before .before .stamp-by2 .ensures) at (c .before .before .cmp .ensures)))
 
--- src/hybrid.rt:116:1
 returns-2 : tie.Need-returns-2
 returns-2 c = ap orderNumber (sym (c .enum-told2 .given .1) ∙ (rw (c .before .before .before .before .stamp-by .ensures, c .before .before .before .stamp-by2 .ensures) at (c .before .before .cmp .ensures)))
 
--- src/hybrid.rt:116:1
 returns-3 : tie.Need-returns-3
 returns-3 c = ap orderNumber (sym (c .enum-told3 .given .1) ∙ (rw (c .before .before .before .before .stamp-by .ensures, c .before .before .before .stamp-by2 .ensures) at (c .before .before .cmp .ensures)))
 

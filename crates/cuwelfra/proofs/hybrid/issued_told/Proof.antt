@@ -6,39 +6,30 @@ use Rattle.cuwelfra.proofs.hybrid.issued_told.Lts as lts
 use Rattle.cuwelfra.proofs.bytes.accept.Reads as accept-reads
 use Rattle.error.proofs.tell.Reads as tell-reads
 
--- src/hybrid.rt:76:25
 enum-known-r : tie.Need-enum-known-r
 enum-known-r c = search needs
 
--- src/hybrid.rt:79:23
 accept-requires : tie.Need-accept-requires
 accept-requires c κs = search needs
 
--- src/hybrid.rt:81:34
 cast-t9 : tie.Need-cast-t9
 cast-t9 c = search needs
 
--- src/hybrid.rt:84:31
 cast-t10 : tie.Need-cast-t10
 cast-t10 c = search needs
 
--- src/hybrid.rt:87:27
 enum-known-r-2 : tie.Need-enum-known-r-2
 enum-known-r-2 c = search needs
 
--- src/hybrid.rt:88:19
 tell-requires : tie.Need-tell-requires
 tell-requires c κs = search needs
 
--- src/hybrid.rt:93:27
 cast-t12 : tie.Need-cast-t12
 cast-t12 c = search needs
 
--- src/hybrid.rt:72:1
 returns : tie.Need-returns
 returns c = rw (c .before .before .before .before .before .r .given .1, c .before .before .accept .ensures)
 
--- src/hybrid.rt:72:1
 returns-2 : tie.Need-returns-2
 returns-2 c = rw (c .before .before .before .r2 .given .1, c .before .tell .ensures)
 

@@ -6,35 +6,27 @@ use Rattle.cuwelfra.proofs.hybrid.updated_told.Lts as lts
 use Rattle.cuwelfra.proofs.bytes.accept.Reads as accept-reads
 use Rattle.error.proofs.tell.Reads as tell-reads
 
--- src/hybrid.rt:102:24
 enum-known-r : tie.Need-enum-known-r
 enum-known-r c = search needs
 
--- src/hybrid.rt:103:19
 accept-requires : tie.Need-accept-requires
 accept-requires c κs = search needs
 
--- src/hybrid.rt:105:27
 cast-t7 : tie.Need-cast-t7
 cast-t7 c = search needs
 
--- src/hybrid.rt:107:28
 enum-known-r-2 : tie.Need-enum-known-r-2
 enum-known-r-2 c = search needs
 
--- src/hybrid.rt:108:19
 tell-requires : tie.Need-tell-requires
 tell-requires c κs = search needs
 
--- src/hybrid.rt:110:27
 cast-t9 : tie.Need-cast-t9
 cast-t9 c = search needs
 
--- src/hybrid.rt:98:1
 returns : tie.Need-returns
 returns c = rw (c .before .before .before .r .given .1, c .before .accept .ensures)
 
--- src/hybrid.rt:98:1
 returns-2 : tie.Need-returns-2
 returns-2 c = rw (c .before .before .before .r2 .given .1, c .before .tell .ensures)
 

@@ -8,15 +8,12 @@ use Rattle.cuwelfra.proofs.outgoing.cuwelfra_cutoff.Lts as lts
 use Rattle.cuwelfra.proofs.store.stamp_told.Reads as stamp-told-reads
 use Rattle.gc.proofs.cutoff.Reads as cutoff-reads
 
--- src/outgoing.rt:20:30
 cutoff-requires : tie.Need-cutoff-requires
 cutoff-requires c κs = search needs
 
--- src/outgoing.rt:20:5
 stamp-told-requires : tie.Need-stamp-told-requires
 stamp-told-requires c κs = search needs
 
--- src/outgoing.rt:11:1
 returns : tie.Need-returns
 returns c = c .stamp-told .ensures ∙ ap stampTold (c .before .cutoff .ensures)
 

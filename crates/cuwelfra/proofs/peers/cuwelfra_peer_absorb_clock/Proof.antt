@@ -15,65 +15,56 @@ use Rattle.error.proofs.tell.Reads as tell-reads
 use Rattle.peer.proofs.Peer.absorb_clock.Reads as absorb-clock-reads
 use Rattle.peer.proofs.raw.load_peer.Reads as load-peer-reads
 
--- src/peers.rt:88:9
 tell-requires : tie.Need-tell-requires
 tell-requires c κs = search needs
 
--- src/peers.rt:88:9
 returns : tie.Need-returns
 unfolding absorbArea
 returns c = lent-short _ _ _ _ (short-own (c .before .before .before .before .args .area .now) (c .before .before .before .before .args .clock .now) (omega arith)) (c .tell .ensures)
 
--- src/peers.rt:91:9
 tell-requires-2 : tie.Need-tell-requires-2
 tell-requires-2 c κs = search needs
 
--- src/peers.rt:91:9
 returns-2 : tie.Need-returns-2
 unfolding absorbArea
 returns-2 c = lent-short _ _ _ _ (short-clock (c .before .before .before .before .before .args .area .now) (c .before .before .before .before .before .args .clock .now) (omega arith) (omega arith)) (c .tell2 .ensures)
 
--- src/peers.rt:93:9
 is-state-requires : tie.Need-is-state-requires
 is-state-requires c κs = search needs
 
--- src/peers.rt:94:9
 tell-requires-3 : tie.Need-tell-requires-3
 tell-requires-3 c κs = search needs
 
--- src/peers.rt:94:9
 same-length : tie.Need-same-length
 same-length c = search needs
 
--- src/peers.rt:94:9
 returns-3 : tie.Need-returns-3
 unfolding absorbArea
-returns-3 c = lent-stateless _ _ _ _ (long-both (c .before .before .before .before .before .before .before .before .args .area .now) (c .before .before .before .before .before .before .before .before .args .clock .now) (omega arith) (omega arith)) (sym (c .before .before .is-state .ensures) ∙ not-true _ (c .before .if3 .taken)) (c .tell3 .ensures)
+returns-3 c =
+    let args = c .before .before .before .before .before .before .before .before .args in
+    lent-stateless _ _ _ _ (long-both (args .area .now) (args .clock .now) (omega arith) (omega arith)) (sym (c .before .before .is-state .ensures) ∙ not-true _ (c .before .if3 .taken)) (c .tell3 .ensures)
 
--- src/peers.rt:96:9
 load-clock-requires : tie.Need-load-clock-requires
 load-clock-requires c κs = search needs
 
--- src/peers.rt:97:19
 load-peer-requires : tie.Need-load-peer-requires
 load-peer-requires c κs = search needs
 
--- src/peers.rt:97:9
 absorb-clock-requires : tie.Need-absorb-clock-requires
 absorb-clock-requires c κs = search needs
 
--- src/peers.rt:98:5
 keep-peer-requires : tie.Need-keep-peer-requires
 keep-peer-requires c κs = search needs
 
--- src/peers.rt:83:1
 same-length-2 : tie.Need-same-length-2
 same-length-2 c = search needs
 
--- src/peers.rt:83:1
 returns-4 : tie.Need-returns-4
 unfolding absorbArea
-returns-4 c = lent-kept _ _ _ _ _ _ (long-both (c .before .before .before .before .before .before .before .before .before .before .before .before .before .before .before .args .area .now) (c .before .before .before .before .before .before .before .before .before .before .before .before .before .before .before .args .clock .now) (omega arith) (omega arith)) (sym (c .before .before .before .before .before .before .before .before .before .is-state .ensures) ∙ not-false _ (c .before .before .before .before .before .before .before .before .if3 .left)) (rw (c .before .before .before .before .before .load-peer .ensures, c .before .before .before .before .before .before .before .load-clock .ensures) at (c .before .before .before .before .absorb-clock .ensures)) (c .before .before .keep-peer .ensures)
+returns-4 c =
+    let at₂ = c .before .before .before .before .before .before .before in
+    let args = at₂ .before .before .before .before .before .before .before .before .args in
+    lent-kept _ _ _ _ _ _ (long-both (args .area .now) (args .clock .now) (omega arith) (omega arith)) (sym (at₂ .before .before .is-state .ensures) ∙ not-false _ (at₂ .before .if3 .left)) (rw (c .before .before .before .before .before .load-peer .ensures, at₂ .load-clock .ensures) at (c .before .before .before .before .absorb-clock .ensures)) (c .before .before .keep-peer .ensures)
 
 pub cuwelfra-peer-absorb-clock-spec : {M : Type 1} → statement M
 cuwelfra-peer-absorb-clock-spec =

@@ -10,31 +10,24 @@ use Rattle.error.proofs.tell.Reads as tell-reads
 use Rattle.peer.proofs.Peer.new.Reads as new-reads
 use Rattle.peer.proofs.raw.store_peer.Reads as store-peer-reads
 
--- src/peers.rt:49:9
 tell-requires : tie.Need-tell-requires
 tell-requires c κs = search needs
 
--- src/peers.rt:49:9
 returns : tie.Need-returns
 returns c = new-short _ _ _ (omega arith) (c .tell .ensures)
 
--- src/peers.rt:51:33
 new-requires : tie.Need-new-requires
 new-requires c κs = search needs
 
--- src/peers.rt:51:5
 store-peer-requires : tie.Need-store-peer-requires
 store-peer-requires c κs = search needs
 
--- src/peers.rt:52:5
 accept-requires : tie.Need-accept-requires
 accept-requires c κs = search needs
 
--- src/peers.rt:44:1
 same-length : tie.Need-same-length
 same-length c = search needs
 
--- src/peers.rt:44:1
 returns-2 : tie.Need-returns-2
 returns-2 c = new-peer _ _ _ _ _ (omega arith) (c .before .before .before .before .new .ensures) (c .before .before .before .store-peer .ensures) (c .accept .ensures)
 

@@ -9,11 +9,9 @@ use Rattle.cuwelfra.proofs.peers.is_state.Reads as reads
 use Rattle.cuwelfra.proofs.peers.is_state.Lts as lts
 use Rattle.words.proofs.raw.get_word.Reads as get-word-reads
 
--- src/peers.rt:24:5
 get-word-requires : tie.Need-get-word-requires
 get-word-requires c κs = search needs
 
--- src/peers.rt:20:1
 returns : tie.Need-returns
 unfolding stateOk
 returns c = ap (λ (n : ℕ). leb n 3) (c .get-word .ensures)

@@ -1,5 +1,6 @@
 use mathlib.Core.Path.{_≡_, _∙_, ap, sym, refl}
 use Rattle.cuwelfra.specs.Bytes.{writtenTold}
+use Rattle.cuwelfra.proofs.StoreLaws.{written-row}
 use borrow.Author.Needs.{needs}
 use Rattle.cuwelfra.proofs.rows.cuwelfra_signed_op.Statement.{statement}
 use Rattle.cuwelfra.proofs.rows.cuwelfra_signed_op.Tie as tie
@@ -8,21 +9,17 @@ use Rattle.cuwelfra.proofs.rows.cuwelfra_signed_op.Lts as lts
 use Rattle.cuwelfra.proofs.bytes.written.Reads as written-reads
 use Rattle.row.proofs.wire.signed_op.Reads as signed-op-reads
 
--- src/rows.rt:35:27
 signed-op-requires : tie.Need-signed-op-requires
 signed-op-requires c κs = search needs
 
--- src/rows.rt:35:5
 written-requires : tie.Need-written-requires
 written-requires c κs = search needs
 
--- src/rows.rt:31:1
 same-length : tie.Need-same-length
 same-length c = search needs
 
--- src/rows.rt:31:1
 returns : tie.Need-returns
-returns c = record { answer = c .written .ensures ∙ ap writtenTold (c .before .before .before .signed-op .ensures .answer); output = c .before .before .before .signed-op .ensures .output }
+returns c = written-row _ _ _ _ _ _ (c .written .ensures) (c .before .before .before .signed-op .ensures)
 
 pub cuwelfra-signed-op-spec : {M : Type 1} → statement M
 cuwelfra-signed-op-spec =

@@ -1,5 +1,6 @@
 use mathlib.Core.Path.{_≡_, _∙_, ap, sym, refl}
 use Rattle.cuwelfra.specs.Bytes.{writtenTold}
+use Rattle.cuwelfra.proofs.StoreLaws.{written-row}
 use borrow.Author.Needs.{needs}
 use Rattle.cuwelfra.proofs.rows.cuwelfra_unsigned_op.Statement.{statement}
 use Rattle.cuwelfra.proofs.rows.cuwelfra_unsigned_op.Tie as tie
@@ -8,21 +9,17 @@ use Rattle.cuwelfra.proofs.rows.cuwelfra_unsigned_op.Lts as lts
 use Rattle.cuwelfra.proofs.bytes.written.Reads as written-reads
 use Rattle.row.proofs.wire.unsigned_op.Reads as unsigned-op-reads
 
--- src/rows.rt:27:27
 unsigned-op-requires : tie.Need-unsigned-op-requires
 unsigned-op-requires c κs = search needs
 
--- src/rows.rt:27:5
 written-requires : tie.Need-written-requires
 written-requires c κs = search needs
 
--- src/rows.rt:23:1
 same-length : tie.Need-same-length
 same-length c = search needs
 
--- src/rows.rt:23:1
 returns : tie.Need-returns
-returns c = record { answer = c .written .ensures ∙ ap writtenTold (c .before .before .before .unsigned-op .ensures .answer); output = c .before .before .before .unsigned-op .ensures .output }
+returns c = written-row _ _ _ _ _ _ (c .written .ensures) (c .before .before .before .unsigned-op .ensures)
 
 pub cuwelfra-unsigned-op-spec : {M : Type 1} → statement M
 cuwelfra-unsigned-op-spec =

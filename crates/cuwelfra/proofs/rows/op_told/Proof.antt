@@ -6,31 +6,24 @@ use Rattle.cuwelfra.proofs.rows.op_told.Lts as lts
 use Rattle.cuwelfra.proofs.bytes.accept.Reads as accept-reads
 use Rattle.error.proofs.tell.Reads as tell-reads
 
--- src/rows.rt:44:23
 enum-known-reading : tie.Need-enum-known-reading
 enum-known-reading c = search needs
 
--- src/rows.rt:45:19
 accept-requires : tie.Need-accept-requires
 accept-requires c κs = search needs
 
--- src/rows.rt:47:22
 cast-t9 : tie.Need-cast-t9
 cast-t9 c = search needs
 
--- src/rows.rt:49:26
 enum-known-reading-2 : tie.Need-enum-known-reading-2
 enum-known-reading-2 c = search needs
 
--- src/rows.rt:50:19
 tell-requires : tie.Need-tell-requires
 tell-requires c κs = search needs
 
--- src/rows.rt:38:1
 returns : tie.Need-returns
 returns c = λ src. rw (c .before .before .reading .given .1, c .accept .ensures)
 
--- src/rows.rt:38:1
 returns-2 : tie.Need-returns-2
 returns-2 c = λ src. rw (c .before .before .reading2 .given .1, c .tell .ensures)
 

@@ -8,15 +8,12 @@ use Rattle.cuwelfra.proofs.store.cuwelfra_can_serve.Lts as lts
 use Rattle.cuwelfra.proofs.vector.cover_told.Reads as cover-told-reads
 use Rattle.log.proofs.query.can_serve.Reads as can-serve-reads
 
--- src/store.rt:120:31
 can-serve-requires : tie.Need-can-serve-requires
 can-serve-requires c κs = search needs
 
--- src/store.rt:120:5
 cover-told-requires : tie.Need-cover-told-requires
 cover-told-requires c κs = search needs
 
--- src/store.rt:111:1
 returns : tie.Need-returns
 returns c = c .cover-told .ensures ∙ ap coverTold (c .before .can-serve .ensures)
 

@@ -10,27 +10,21 @@ use Rattle.cuwelfra.proofs.store.put_clock.Reads as put-clock-reads
 use Rattle.error.proofs.tell.Reads as tell-reads
 use Rattle.log.proofs.query.derive_clock.Reads as derive-clock-reads
 
--- src/store.rt:182:9
 tell-requires : tie.Need-tell-requires
 tell-requires c κs = search needs
 
--- src/store.rt:182:9
 returns : tie.Need-returns
 returns c = clock-short _ _ _ (omega arith) (c .tell .ensures)
 
--- src/store.rt:184:22
 derive-clock-requires : tie.Need-derive-clock-requires
 derive-clock-requires c κs = search needs
 
--- src/store.rt:184:5
 put-clock-requires : tie.Need-put-clock-requires
 put-clock-requires c κs = search needs
 
--- src/store.rt:172:1
 same-length : tie.Need-same-length
 same-length c = search needs
 
--- src/store.rt:172:1
 returns-2 : tie.Need-returns-2
 returns-2 c = c .before .before .put-clock .ensures _ (c .before .before .before .derive-clock .ensures)
 

@@ -8,15 +8,12 @@ use Rattle.cuwelfra.proofs.store.cuwelfra_floor.Lts as lts
 use Rattle.cuwelfra.proofs.store.stamp_told.Reads as stamp-told-reads
 use Rattle.log.proofs.query.floor.Reads as floor-reads
 
--- src/store.rt:100:16
 floor-requires : tie.Need-floor-requires
 floor-requires c κs = search needs
 
--- src/store.rt:100:5
 stamp-told-requires : tie.Need-stamp-told-requires
 stamp-told-requires c κs = search needs
 
--- src/store.rt:96:1
 returns : tie.Need-returns
 returns c = c .stamp-told .ensures ∙ ap stampTold (c .before .floor .ensures)
 

@@ -10,27 +10,21 @@ use Rattle.cuwelfra.proofs.store.put_clock.Reads as put-clock-reads
 use Rattle.error.proofs.tell.Reads as tell-reads
 use Rattle.log.proofs.query.clock.Reads as clock-reads
 
--- src/store.rt:150:9
 tell-requires : tie.Need-tell-requires
 tell-requires c κs = search needs
 
--- src/store.rt:150:9
 returns : tie.Need-returns
 returns c = clock-short _ _ _ (omega arith) (c .tell .ensures)
 
--- src/store.rt:152:22
 clock-requires : tie.Need-clock-requires
 clock-requires c κs = search needs
 
--- src/store.rt:152:5
 put-clock-requires : tie.Need-put-clock-requires
 put-clock-requires c κs = search needs
 
--- src/store.rt:140:1
 same-length : tie.Need-same-length
 same-length c = search needs
 
--- src/store.rt:140:1
 returns-2 : tie.Need-returns-2
 returns-2 c = c .before .before .put-clock .ensures _ (c .before .before .before .clock .ensures)
 

@@ -1,5 +1,5 @@
 use mathlib.Core.Path.{_≡_, _∙_, ap, sym, refl}
-use Rattle.cuwelfra.specs.Vectors.{clockTold}
+use Rattle.cuwelfra.specs.Vectors.{countTold}
 use borrow.Author.Needs.{needs}
 use Rattle.cuwelfra.proofs.store.cuwelfra_pending_len.Statement.{statement}
 use Rattle.cuwelfra.proofs.store.cuwelfra_pending_len.Tie as tie
@@ -8,17 +8,14 @@ use Rattle.cuwelfra.proofs.store.cuwelfra_pending_len.Lts as lts
 use Rattle.cuwelfra.proofs.vector.clock_told.Reads as clock-told-reads
 use Rattle.log.proofs.query.pending_len.Reads as pending-len-reads
 
--- src/store.rt:93:31
 pending-len-requires : tie.Need-pending-len-requires
 pending-len-requires c κs = search needs
 
--- src/store.rt:93:5
 clock-told-requires : tie.Need-clock-told-requires
 clock-told-requires c κs = search needs
 
--- src/store.rt:89:1
 returns : tie.Need-returns
-returns c = c .clock-told .ensures ∙ ap clockTold (c .before .pending-len .ensures)
+returns c = c .clock-told .ensures ∙ ap countTold (c .before .pending-len .ensures)
 
 pub cuwelfra-pending-len-spec : {M : Type 1} → statement M
 cuwelfra-pending-len-spec = tie.close (tie.spec pending-len-requires clock-told-requires returns)

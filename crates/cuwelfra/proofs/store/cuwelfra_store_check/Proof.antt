@@ -8,15 +8,12 @@ use Rattle.cuwelfra.proofs.store.cuwelfra_store_check.Lts as lts
 use Rattle.cuwelfra.proofs.store.outcome_told.Reads as outcome-told-reads
 use Rattle.log.proofs.check.check_store.Reads as check-store-reads
 
--- src/store.rt:79:18
 check-store-requires : tie.Need-check-store-requires
 check-store-requires c κs = search needs
 
--- src/store.rt:79:5
 outcome-told-requires : tie.Need-outcome-told-requires
 outcome-told-requires c κs = search needs
 
--- src/store.rt:75:1
 returns : tie.Need-returns
 returns c = c .outcome-told .ensures ∙ ap toldBy (c .before .check-store .ensures)
 

@@ -8,15 +8,12 @@ use Rattle.cuwelfra.proofs.store.cuwelfra_watermark.Lts as lts
 use Rattle.cuwelfra.proofs.store.stamp_told.Reads as stamp-told-reads
 use Rattle.log.proofs.query.watermark.Reads as watermark-reads
 
--- src/store.rt:107:16
 watermark-requires : tie.Need-watermark-requires
 watermark-requires c κs = search needs
 
--- src/store.rt:107:5
 stamp-told-requires : tie.Need-stamp-told-requires
 stamp-told-requires c κs = search needs
 
--- src/store.rt:103:1
 returns : tie.Need-returns
 returns c = c .stamp-told .ensures ∙ ap stampTold (c .before .watermark .ensures)
 

@@ -5,11 +5,9 @@ use Rattle.cuwelfra.proofs.store.found.Reads as reads
 use Rattle.cuwelfra.proofs.store.found.Lts as lts
 use Rattle.cuwelfra.proofs.bytes.accept.Reads as accept-reads
 
--- src/store.rt:199:15
 accept-requires : tie.Need-accept-requires
 accept-requires c κs = search needs
 
--- src/store.rt:195:1
 returns : tie.Need-returns
 returns c = rw (c .accept .ensures)
 

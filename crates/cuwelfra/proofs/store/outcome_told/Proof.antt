@@ -6,27 +6,21 @@ use Rattle.cuwelfra.proofs.store.outcome_told.Lts as lts
 use Rattle.cuwelfra.proofs.bytes.accept.Reads as accept-reads
 use Rattle.error.proofs.tell.Reads as tell-reads
 
--- src/store.rt:38:26
 enum-told : tie.Need-enum-told
 enum-told c = search needs
 
--- src/store.rt:38:26
 accept-requires : tie.Need-accept-requires
 accept-requires c κs = search needs
 
--- src/store.rt:39:26
 enum-known-o : tie.Need-enum-known-o
 enum-known-o c = search needs
 
--- src/store.rt:39:38
 tell-requires : tie.Need-tell-requires
 tell-requires c κs = search needs
 
--- src/store.rt:34:1
 returns : tie.Need-returns
 returns c = rw (c .before .enum-told .given .1) (c .accept .ensures)
 
--- src/store.rt:34:1
 returns-2 : tie.Need-returns-2
 returns-2 c = rw (c .before .before .o .given .1) (c .tell .ensures)
 

@@ -10,35 +10,30 @@ use Rattle.clock.proofs.raw.store_clock.Reads as store-clock-reads
 use Rattle.cuwelfra.proofs.bytes.accept.Reads as accept-reads
 use Rattle.error.proofs.tell.Reads as tell-reads
 
--- src/store.rt:131:17
 enum-told : tie.Need-enum-told
 enum-told c = search needs
 
--- src/store.rt:132:13
 store-clock-requires : tie.Need-store-clock-requires
 store-clock-requires c κs = search needs
 
--- src/store.rt:133:13
 accept-requires : tie.Need-accept-requires
 accept-requires c κs = search needs
 
--- src/store.rt:135:26
 enum-known-outcome : tie.Need-enum-known-outcome
 enum-known-outcome c = search needs
 
--- src/store.rt:135:38
 tell-requires : tie.Need-tell-requires
 tell-requires c κs = search needs
 
--- src/store.rt:124:1
 same-length : tie.Need-same-length
 same-length c = search needs
 
--- src/store.rt:124:1
 returns : tie.Need-returns
-returns c = clock-done _ _ (c .before .before .before .before .before .before .before .before .before .args .r) _ (c .before .before .before .before .before .before .before .before .before .pre) (c .before .before .before .before .before .before .enum-told .given .1) (c .before .before .before .store-clock .ensures) (c .accept .ensures)
+returns c =
+    let at = c .before .before .before .before .before .before in
+    let at₂ = at .before .before .before in
+    clock-done _ _ (at₂ .args .r) _ (at₂ .pre) (at .enum-told .given .1) (c .before .before .before .store-clock .ensures) (c .accept .ensures)
 
--- src/store.rt:124:1
 returns-2 : tie.Need-returns-2
 returns-2 c = clock-refused _ (c .before .before .before .before .before .args .r) _ _ (c .before .before .before .before .before .pre) (c .before .before .outcome .given .1) (c .tell .ensures)
 

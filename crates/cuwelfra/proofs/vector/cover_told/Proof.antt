@@ -6,39 +6,30 @@ use Rattle.cuwelfra.proofs.vector.cover_told.Lts as lts
 use Rattle.cuwelfra.proofs.bytes.accept.Reads as accept-reads
 use Rattle.error.proofs.tell.Reads as tell-reads
 
--- src/vector.rt:47:19
 enum-told : tie.Need-enum-told
 enum-told c = search needs
 
--- src/vector.rt:47:19
 accept-requires : tie.Need-accept-requires
 accept-requires c κs = search needs
 
--- src/vector.rt:51:19
 enum-told-2 : tie.Need-enum-told-2
 enum-told-2 c = search needs
 
--- src/vector.rt:51:19
 accept-requires-2 : tie.Need-accept-requires-2
 accept-requires-2 c κs = search needs
 
--- src/vector.rt:54:30
 enum-known-r : tie.Need-enum-known-r
 enum-known-r c = search needs
 
--- src/vector.rt:55:19
 tell-requires : tie.Need-tell-requires
 tell-requires c κs = search needs
 
--- src/vector.rt:42:1
 returns : tie.Need-returns
 returns c = rw (c .before .enum-told .given .1, c .accept .ensures)
 
--- src/vector.rt:42:1
 returns-2 : tie.Need-returns-2
 returns-2 c = rw (c .before .enum-told2 .given .1, c .accept2 .ensures)
 
--- src/vector.rt:42:1
 returns-3 : tie.Need-returns-3
 returns-3 c = rw (c .before .before .r .given .1, c .tell .ensures)
 

@@ -1,7 +1,7 @@
 use mathlib.Core.Path.{_≡_, _∙_, ap, sym, refl}
 use native.Mathlib.Omega.{arith}
 use Rattle.cuwelfra.specs.Vectors.{incrementArea}
-use Rattle.cuwelfra.proofs.Laws.{is-long, is-short, short-number, long-number}
+use Rattle.cuwelfra.proofs.VectorLaws.{is-long, is-short, short-number, long-number}
 use borrow.Author.Needs.{needs}
 use Rattle.cuwelfra.proofs.vector.cuwelfra_clock_increment.Statement.{statement}
 use Rattle.cuwelfra.proofs.vector.cuwelfra_clock_increment.Tie as tie
@@ -12,32 +12,25 @@ use Rattle.clock.proofs.vector.VectorClock.increment.Reads as increment-reads
 use Rattle.cuwelfra.proofs.vector.clock_told.Reads as clock-told-reads
 use Rattle.cuwelfra.proofs.vector.keep_number.Reads as keep-number-reads
 
--- src/vector.rt:171:9
 clock-told-requires : tie.Need-clock-told-requires
 clock-told-requires c κs = search needs
 
--- src/vector.rt:171:9
 returns : tie.Need-returns
 unfolding incrementArea
 returns c = short-number _ _ _ _ (is-short (c .before .before .before .args .clock .now) (omega arith)) (c .clock-told .ensures)
 
--- src/vector.rt:173:19
 load-clock-requires : tie.Need-load-clock-requires
 load-clock-requires c κs = search needs
 
--- src/vector.rt:173:9
 increment-requires : tie.Need-increment-requires
 increment-requires c κs = search needs
 
--- src/vector.rt:174:5
 keep-number-requires : tie.Need-keep-number-requires
 keep-number-requires c κs = search needs
 
--- src/vector.rt:166:1
 same-length : tie.Need-same-length
 same-length c = search needs
 
--- src/vector.rt:166:1
 returns-2 : tie.Need-returns-2
 unfolding incrementArea
 returns-2 c = long-number _ _ _ _ _ _ (is-long (c .before .before .before .before .before .before .before .before .before .args .clock .now) (omega arith)) (rw (c .before .before .before .before .before .load-clock .ensures) at (c .before .before .before .before .increment .ensures)) (c .before .before .keep-number .ensures)

@@ -1,7 +1,7 @@
 use mathlib.Core.Path.{_≡_, _∙_, ap, sym, refl}
 use native.Mathlib.Omega.{arith}
 use Rattle.cuwelfra.specs.Vectors.{newArea}
-use Rattle.cuwelfra.proofs.Laws.{is-long, is-short, short-kept, new-kept}
+use Rattle.cuwelfra.proofs.VectorLaws.{is-long, is-short, short-kept, new-kept}
 use borrow.Author.Needs.{needs}
 use Rattle.cuwelfra.proofs.vector.cuwelfra_clock_new.Statement.{statement}
 use Rattle.cuwelfra.proofs.vector.cuwelfra_clock_new.Tie as tie
@@ -12,32 +12,25 @@ use Rattle.clock.proofs.vector.VectorClock.new.Reads as new-reads
 use Rattle.cuwelfra.proofs.bytes.accept.Reads as accept-reads
 use Rattle.error.proofs.tell.Reads as tell-reads
 
--- src/vector.rt:139:9
 tell-requires : tie.Need-tell-requires
 tell-requires c κs = search needs
 
--- src/vector.rt:139:9
 returns : tie.Need-returns
 unfolding newArea
 returns c = short-kept _ _ _ _ (is-short (c .before .before .before .args .clock .now) (omega arith)) (c .tell .ensures)
 
--- src/vector.rt:141:39
 new-requires : tie.Need-new-requires
 new-requires c κs = search needs
 
--- src/vector.rt:141:5
 store-clock-requires : tie.Need-store-clock-requires
 store-clock-requires c κs = search needs
 
--- src/vector.rt:142:5
 accept-requires : tie.Need-accept-requires
 accept-requires c κs = search needs
 
--- src/vector.rt:134:1
 same-length : tie.Need-same-length
 same-length c = search needs
 
--- src/vector.rt:134:1
 returns-2 : tie.Need-returns-2
 unfolding newArea
 returns-2 c = new-kept _ _ _ _ (is-long (c .before .before .before .before .before .before .before .before .args .clock .now) (omega arith)) (c .before .before .before .before .new .ensures) (c .before .before .before .store-clock .ensures) (c .accept .ensures)

@@ -1,7 +1,7 @@
 use mathlib.Core.Path.{_≡_, _∙_, ap, sym, refl}
 use native.Mathlib.Omega.{arith}
 use Rattle.cuwelfra.specs.Vectors.{observeArea}
-use Rattle.cuwelfra.proofs.Laws.{is-long, is-short, short-kept, long-kept}
+use Rattle.cuwelfra.proofs.VectorLaws.{is-long, is-short, short-kept, long-kept}
 use borrow.Author.Needs.{needs}
 use Rattle.cuwelfra.proofs.vector.cuwelfra_clock_observe.Statement.{statement}
 use Rattle.cuwelfra.proofs.vector.cuwelfra_clock_observe.Tie as tie
@@ -12,32 +12,25 @@ use Rattle.clock.proofs.vector.VectorClock.observe.Reads as observe-reads
 use Rattle.cuwelfra.proofs.vector.keep.Reads as keep-reads
 use Rattle.error.proofs.tell.Reads as tell-reads
 
--- src/vector.rt:160:9
 tell-requires : tie.Need-tell-requires
 tell-requires c κs = search needs
 
--- src/vector.rt:160:9
 returns : tie.Need-returns
 unfolding observeArea
 returns c = short-kept _ _ _ _ (is-short (c .before .before .before .args .clock .now) (omega arith)) (c .tell .ensures)
 
--- src/vector.rt:162:19
 load-clock-requires : tie.Need-load-clock-requires
 load-clock-requires c κs = search needs
 
--- src/vector.rt:162:9
 observe-requires : tie.Need-observe-requires
 observe-requires c κs = search needs
 
--- src/vector.rt:163:5
 keep-requires : tie.Need-keep-requires
 keep-requires c κs = search needs
 
--- src/vector.rt:155:1
 same-length : tie.Need-same-length
 same-length c = search needs
 
--- src/vector.rt:155:1
 returns-2 : tie.Need-returns-2
 unfolding observeArea
 returns-2 c = long-kept _ _ _ _ _ _ (is-long (c .before .before .before .before .before .before .before .before .before .args .clock .now) (omega arith)) (rw (c .before .before .before .before .before .load-clock .ensures) at (c .before .before .before .before .observe .ensures)) (c .before .before .keep .ensures)

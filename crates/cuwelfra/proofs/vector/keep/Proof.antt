@@ -1,4 +1,4 @@
-use Rattle.cuwelfra.proofs.Laws.{kept-done, kept-refused}
+use Rattle.cuwelfra.proofs.VectorLaws.{kept-done, kept-refused}
 use mathlib.Core.Path.{_≡_, _∙_, ap, sym, refl}
 use mathlib.Core.Path.{_≡_, _∙_, ap, sym, refl}
 use borrow.Author.Needs.{needs}
@@ -10,35 +10,27 @@ use Rattle.clock.proofs.raw.store_clock.Reads as store-clock-reads
 use Rattle.cuwelfra.proofs.bytes.accept.Reads as accept-reads
 use Rattle.error.proofs.tell.Reads as tell-reads
 
--- src/vector.rt:104:17
 enum-told : tie.Need-enum-told
 enum-told c = search needs
 
--- src/vector.rt:105:13
 store-clock-requires : tie.Need-store-clock-requires
 store-clock-requires c κs = search needs
 
--- src/vector.rt:106:13
 accept-requires : tie.Need-accept-requires
 accept-requires c κs = search needs
 
--- src/vector.rt:108:26
 enum-known-outcome : tie.Need-enum-known-outcome
 enum-known-outcome c = search needs
 
--- src/vector.rt:108:38
 tell-requires : tie.Need-tell-requires
 tell-requires c κs = search needs
 
--- src/vector.rt:97:1
 same-length : tie.Need-same-length
 same-length c = search needs
 
--- src/vector.rt:97:1
 returns : tie.Need-returns
 returns c = kept-done _ _ _ _ (c .before .before .before .before .before .before .enum-told .given .1) (c .before .before .before .store-clock .ensures) (c .accept .ensures)
 
--- src/vector.rt:97:1
 returns-2 : tie.Need-returns-2
 returns-2 c = kept-refused _ _ _ _ (c .before .before .outcome .given .1) (c .tell .ensures)
 

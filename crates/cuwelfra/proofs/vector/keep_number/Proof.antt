@@ -1,4 +1,4 @@
-use Rattle.cuwelfra.proofs.Laws.{number-done, number-refused}
+use Rattle.cuwelfra.proofs.VectorLaws.{number-done, number-refused}
 use borrow.Author.Needs.{needs}
 use Rattle.cuwelfra.proofs.vector.keep_number.Statement.{statement}
 use Rattle.cuwelfra.proofs.vector.keep_number.Tie as tie
@@ -8,35 +8,27 @@ use Rattle.clock.proofs.raw.store_clock.Reads as store-clock-reads
 use Rattle.cuwelfra.proofs.bytes.accept.Reads as accept-reads
 use Rattle.error.proofs.tell.Reads as tell-reads
 
--- src/vector.rt:118:30
 enum-known-answer : tie.Need-enum-known-answer
 enum-known-answer c = search needs
 
--- src/vector.rt:120:13
 store-clock-requires : tie.Need-store-clock-requires
 store-clock-requires c κs = search needs
 
--- src/vector.rt:122:23
 accept-requires : tie.Need-accept-requires
 accept-requires c κs = search needs
 
--- src/vector.rt:126:31
 enum-known-answer-2 : tie.Need-enum-known-answer-2
 enum-known-answer-2 c = search needs
 
--- src/vector.rt:127:19
 tell-requires : tie.Need-tell-requires
 tell-requires c κs = search needs
 
--- src/vector.rt:112:1
 same-length : tie.Need-same-length
 same-length c = search needs
 
--- src/vector.rt:112:1
 returns : tie.Need-returns
 returns c = number-done _ _ _ _ _ (c .before .before .before .before .before .before .before .answer .given .1) (c .before .before .before .store-clock .ensures) (c .accept .ensures)
 
--- src/vector.rt:112:1
 returns-2 : tie.Need-returns-2
 returns-2 c = number-refused _ _ _ _ (c .before .before .answer2 .given .1) (c .tell .ensures)
 

@@ -9,27 +9,21 @@ use Rattle.cuwelfra.proofs.vector.order_told.Lts as lts
 use Rattle.cuwelfra.proofs.vector.causal_told.Reads as causal-told-reads
 use Rattle.error.proofs.tell.Reads as tell-reads
 
--- src/vector.rt:88:28
 enum-known-r : tie.Need-enum-known-r
 enum-known-r c = search needs
 
--- src/vector.rt:88:34
 causal-told-requires : tie.Need-causal-told-requires
 causal-told-requires c κs = search needs
 
--- src/vector.rt:89:30
 enum-known-r-2 : tie.Need-enum-known-r-2
 enum-known-r-2 c = search needs
 
--- src/vector.rt:90:19
 tell-requires : tie.Need-tell-requires
 tell-requires c κs = search needs
 
--- src/vector.rt:84:1
 returns : tie.Need-returns
 returns c = rw (c .before .before .r .given .1) (c .causal-told .ensures)
 
--- src/vector.rt:84:1
 returns-2 : tie.Need-returns-2
 returns-2 c = rw (c .before .before .r2 .given .1, c .tell .ensures)
 

@@ -1,8 +1,8 @@
 use mathlib.Core.Path.{refl}
 use denote.Ref.{now}
 use Rattle.log.specs.Areas.{areas}
-use Rattle.merge.proofs.Views.{was-accepted, was-refused}
-use Rattle.merge.proofs.Committing.{commit-needs, batch-leaves, batch-refused}
+use Rattle.merge.proofs.PartAnswers.{was-accepted, was-refused}
+use Rattle.merge.proofs.CallAnswers.{commit-needs, batch-leaves, batch-refused}
 use borrow.Author.Needs.{needs}
 use Rattle.merge.proofs.call.apply_remote_ops.Statement.{statement}
 use Rattle.merge.proofs.call.apply_remote_ops.Tie as tie
@@ -13,77 +13,71 @@ use Rattle.merge.proofs.call.refuse.Reads as refuse-reads
 use Rattle.merge.proofs.deciding.decide.Reads as decide-reads
 use Rattle.words.proofs.zero.Reads as zero-reads
 
--- src/call.rt:63:9
 decide-requires : tie.Need-decide-requires
 decide-requires c κs = search needs
 
--- src/call.rt:65:27
 enum-known-decision : tie.Need-enum-known-decision
 enum-known-decision c = search needs
 
--- src/call.rt:65:33
 refuse-requires : tie.Need-refuse-requires
 refuse-requires c κs = search needs
 
--- src/call.rt:67:13
 enum-known-decision-2 : tie.Need-enum-known-decision-2
 enum-known-decision-2 c = search needs
 
--- src/call.rt:73:17
 commit-requires : tie.Need-commit-requires
-commit-requires c κs = commit-needs (areas (now (c .before .before .before .before .before .before .before .before .before .before .before .before .before .before .before .before .before .before .before .before .before .before .args .log)) (now (c .before .before .before .before .before .before .before .before .before .before .before .before .before .before .before .before .before .before .before .before .before .before .args .held)) (now (c .before .before .before .before .before .before .before .before .before .before .before .before .before .before .before .before .before .before .before .before .before .before .args .head))) _ _ _ _ _ _ _ _ _ ((was-accepted (areas (now (c .before .before .before .before .before .before .before .before .before .before .before .before .before .before .before .before .before .before .before .before .before .before .args .log)) (now (c .before .before .before .before .before .before .before .before .before .before .before .before .before .before .before .before .before .before .before .before .before .before .args .held)) (now (c .before .before .before .before .before .before .before .before .before .before .before .before .before .before .before .before .before .before .before .before .before .before .args .head))) _ _ _ _ _ _ (c .before .before .before .before .before .before .before .before .before .before .decide .result) _ _ _ _ _ (c .before .before .before .before .before .before .decision2 .given .1) (c .before .before .before .before .before .before .before .before .before .before .decide .ensures)) .accepts) _ _ (search needs) ((was-accepted (areas (now (c .before .before .before .before .before .before .before .before .before .before .before .before .before .before .before .before .before .before .before .before .before .before .args .log)) (now (c .before .before .before .before .before .before .before .before .before .before .before .before .before .before .before .before .before .before .before .before .before .before .args .held)) (now (c .before .before .before .before .before .before .before .before .before .before .before .before .before .before .before .before .before .before .before .before .before .before .args .head))) _ _ _ _ _ _ (c .before .before .before .before .before .before .before .before .before .before .decide .result) _ _ _ _ _ (c .before .before .before .before .before .before .decision2 .given .1) (c .before .before .before .before .before .before .before .before .before .before .decide .ensures)) .room)
+commit-requires c κs =
+    let at = c .before .before .before .before .before .before in
+    let at₂ = at .before .before .before .before in
+    let args = at₂ .before .before .before .before .before .before .before .before .before .before .before .before .args in
+    commit-needs (areas (now (args .log)) (now (args .held)) (now (args .head))) _ _ _ _ _ _ _ _ _ ((was-accepted (areas (now (args .log)) (now (args .held)) (now (args .head))) _ _ _ _ _ _ (at₂ .decide .result) _ _ _ _ _ (at .decision2 .given .1) (at₂ .decide .ensures)) .accepts) _ _ (search needs) ((was-accepted (areas (now (args .log)) (now (args .held)) (now (args .head))) _ _ _ _ _ _ (at₂ .decide .result) _ _ _ _ _ (at .decision2 .given .1) (at₂ .decide .ensures)) .room)
 
--- src/call.rt:84:13
 zero-requires : tie.Need-zero-requires
 zero-requires c κs = search needs
 
--- src/call.rt:51:1
 same-length : tie.Need-same-length
 same-length c = search needs
 
--- src/call.rt:51:1
 same-length-2 : tie.Need-same-length-2
 same-length-2 c = search needs
 
--- src/call.rt:51:1
 same-length-3 : tie.Need-same-length-3
 same-length-3 c = search needs
 
--- src/call.rt:51:1
 same-length-4 : tie.Need-same-length-4
 same-length-4 c = search needs
 
--- src/call.rt:51:1
 same-length-5 : tie.Need-same-length-5
 same-length-5 c = search needs
 
--- src/call.rt:51:1
 returns : tie.Need-returns
-returns c = batch-refused (areas (now (c .before .before .before .before .before .before .before .before .before .before .before .before .before .before .before .before .before .before .before .before .before .args .log)) (now (c .before .before .before .before .before .before .before .before .before .before .before .before .before .before .before .before .before .before .before .before .before .args .held)) (now (c .before .before .before .before .before .before .before .before .before .before .before .before .before .before .before .before .before .before .before .before .before .args .head))) _ _ _ _ _ (c .before .before .before .before .before .before .before .before .before .decide .last .1 .1 .1 .1 .1 .1 .0) _ _ (c .before .before .refuse .result) (was-refused (areas (now (c .before .before .before .before .before .before .before .before .before .before .before .before .before .before .before .before .before .before .before .before .before .args .log)) (now (c .before .before .before .before .before .before .before .before .before .before .before .before .before .before .before .before .before .before .before .before .before .args .held)) (now (c .before .before .before .before .before .before .before .before .before .before .before .before .before .before .before .before .before .before .before .before .before .args .head))) _ _ _ _ _ _ (c .before .before .before .before .before .before .before .before .before .decide .result) _ (c .before .before .before .before .before .decision .given .1) (c .before .before .before .before .before .before .before .before .before .decide .ensures)) (c .before .before .refuse .ensures .0) (c .before .before .refuse .ensures .1) (search needs)
+returns c =
+    let at = c .before .before .before .before .before .before .before .before .before in
+    let args = at .before .before .before .before .before .before .before .before .before .before .before .before .args in
+    batch-refused (areas (now (args .log)) (now (args .held)) (now (args .head))) _ _ _ _ _ (at .decide .last .1 .1 .1 .1 .1 .1 .0) _ _ (c .before .before .refuse .result) (was-refused (areas (now (args .log)) (now (args .held)) (now (args .head))) _ _ _ _ _ _ (at .decide .result) _ (c .before .before .before .before .before .decision .given .1) (at .decide .ensures)) (c .before .before .refuse .ensures .0) (c .before .before .refuse .ensures .1) (search needs)
 
--- src/call.rt:51:1
 same-length-6 : tie.Need-same-length-6
 same-length-6 c = search needs
 
--- src/call.rt:51:1
 same-length-7 : tie.Need-same-length-7
 same-length-7 c = search needs
 
--- src/call.rt:51:1
 same-length-8 : tie.Need-same-length-8
 same-length-8 c = search needs
 
--- src/call.rt:51:1
 same-length-9 : tie.Need-same-length-9
 same-length-9 c = search needs
 
--- src/call.rt:51:1
 same-length-10 : tie.Need-same-length-10
 same-length-10 c = search needs
 
--- src/call.rt:51:1
 returns-2 : tie.Need-returns-2
-returns-2 c = batch-leaves (areas (now (c .before .before .before .before .before .before .before .before .before .before .before .before .before .before .before .before .before .before .before .before .before .before .before .before .before .before .before .before .before .before .before .before .before .before .before .args .log)) (now (c .before .before .before .before .before .before .before .before .before .before .before .before .before .before .before .before .before .before .before .before .before .before .before .before .before .before .before .before .before .before .before .before .before .before .before .args .held)) (now (c .before .before .before .before .before .before .before .before .before .before .before .before .before .before .before .before .before .before .before .before .before .before .before .before .before .before .before .before .before .before .before .before .before .before .before .args .head))) _ _ _ _ _ _ _ _ _ ((was-accepted (areas (now (c .before .before .before .before .before .before .before .before .before .before .before .before .before .before .before .before .before .before .before .before .before .before .before .before .before .before .before .before .before .before .before .before .before .before .before .args .log)) (now (c .before .before .before .before .before .before .before .before .before .before .before .before .before .before .before .before .before .before .before .before .before .before .before .before .before .before .before .before .before .before .before .before .before .before .before .args .held)) (now (c .before .before .before .before .before .before .before .before .before .before .before .before .before .before .before .before .before .before .before .before .before .before .before .before .before .before .before .before .before .before .before .before .before .before .before .args .head))) _ _ _ _ _ _ (c .before .before .before .before .before .before .before .before .before .before .before .before .before .before .before .before .before .before .before .before .before .before .before .decide .result) _ _ _ _ _ (c .before .before .before .before .before .before .before .before .before .before .before .before .before .before .before .before .before .before .before .decision2 .given .1) (c .before .before .before .before .before .before .before .before .before .before .before .before .before .before .before .before .before .before .before .before .before .before .before .decide .ensures)) .accepts) _ _ (search needs) ((was-accepted (areas (now (c .before .before .before .before .before .before .before .before .before .before .before .before .before .before .before .before .before .before .before .before .before .before .before .before .before .before .before .before .before .before .before .before .before .before .before .args .log)) (now (c .before .before .before .before .before .before .before .before .before .before .before .before .before .before .before .before .before .before .before .before .before .before .before .before .before .before .before .before .before .before .before .before .before .before .before .args .held)) (now (c .before .before .before .before .before .before .before .before .before .before .before .before .before .before .before .before .before .before .before .before .before .before .before .before .before .before .before .before .before .before .before .before .before .before .before .args .head))) _ _ _ _ _ _ (c .before .before .before .before .before .before .before .before .before .before .before .before .before .before .before .before .before .before .before .before .before .before .before .decide .result) _ _ _ _ _ (c .before .before .before .before .before .before .before .before .before .before .before .before .before .before .before .before .before .before .before .decision2 .given .1) (c .before .before .before .before .before .before .before .before .before .before .before .before .before .before .before .before .before .before .before .before .before .before .before .decide .ensures)) .answer) _ _ _ _ _ (c .before .before .before .before .before .before .before .before .before .before .before .before .commit .ensures) _ (c .before .before .zero .ensures) _ refl refl refl refl refl refl refl
+returns-2 c =
+    let at = c .before .before .before .before .before .before .before .before .before .before .before .before in
+    let at₂ = at .before .before .before .before .before .before .before in
+    let at₃ = at₂ .before .before .before .before in
+    let args = at₃ .before .before .before .before .before .before .before .before .before .before .before .before .args in
+    batch-leaves (areas (now (args .log)) (now (args .held)) (now (args .head))) _ _ _ _ _ _ _ _ _ ((was-accepted (areas (now (args .log)) (now (args .held)) (now (args .head))) _ _ _ _ _ _ (at₃ .decide .result) _ _ _ _ _ (at₂ .decision2 .given .1) (at₃ .decide .ensures)) .accepts) _ _ (search needs) ((was-accepted (areas (now (args .log)) (now (args .held)) (now (args .head))) _ _ _ _ _ _ (at₃ .decide .result) _ _ _ _ _ (at₂ .decision2 .given .1) (at₃ .decide .ensures)) .answer) _ _ _ _ _ (at .commit .ensures) _ (c .before .before .zero .ensures) _ refl refl refl refl refl refl refl
 
 pub apply-remote-ops-spec : {M : Type 1} → statement M
 apply-remote-ops-spec =

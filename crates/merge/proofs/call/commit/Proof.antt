@@ -7,37 +7,31 @@ use Rattle.commit.proofs.raw.hold_rows.Reads as hold-rows-reads
 use Rattle.commit.proofs.raw.log_rows.Reads as log-rows-reads
 use Rattle.words.proofs.raw.put_word.Reads as put-word-reads
 
--- src/call.rt:23:9
 log-rows-requires : tie.Need-log-rows-requires
 log-rows-requires c κs = search needs
 
--- src/call.rt:24:5
 hold-rows-requires : tie.Need-hold-rows-requires
 hold-rows-requires c κs = search needs
 
--- src/call.rt:25:5
 put-word-requires : tie.Need-put-word-requires
 put-word-requires c κs = search needs
 
--- src/call.rt:9:1
 same-length : tie.Need-same-length
 same-length c = search needs
 
--- src/call.rt:9:1
 same-length-2 : tie.Need-same-length-2
 same-length-2 c = search needs
 
--- src/call.rt:9:1
 same-length-3 : tie.Need-same-length-3
 same-length-3 c = search needs
 
--- src/call.rt:9:1
 same-length-4 : tie.Need-same-length-4
 same-length-4 c = search needs
 
--- src/call.rt:9:1
 returns : tie.Need-returns
-returns c = record { middle = _; all-logged = c .before .before .before .before .before .before .before .before .before .before .before .before .before .before .log-rows .ensures _; held-is = c .before .before .before .before .before .before .hold-rows .ensures; head-is = c .before .before .put-word .ensures }
+returns c =
+    let at = c .before .before .before .before .before .before in
+    record { middle = _; all-logged = at .before .before .before .before .before .before .before .before .log-rows .ensures _; held-is = at .hold-rows .ensures; head-is = c .before .before .put-word .ensures }
 
 pub commit-spec : {M : Type 1} → statement M
 commit-spec =

@@ -1,6 +1,6 @@
 use mathlib.Core.Path.{sym, _∙_, ap}
 use Rattle.clock.specs.Vector.{outcomeOf}
-use Rattle.merge.proofs.Committing.{quota-refused, quota-passed}
+use Rattle.merge.proofs.CallAnswers.{quota-refused, quota-passed}
 use borrow.Author.Needs.{needs}
 use Rattle.merge.proofs.deciding.judge.Statement.{statement}
 use Rattle.merge.proofs.deciding.judge.Tie as tie
@@ -9,27 +9,21 @@ use Rattle.merge.proofs.deciding.judge.Lts as lts
 use Rattle.quota.proofs.raw.quotas.Reads as quotas-reads
 use Rattle.quota.proofs.raw.room.Reads as room-reads
 
--- src/deciding.rt:190:9
 quotas-requires : tie.Need-quotas-requires
 quotas-requires c κs = search needs
 
--- src/deciding.rt:192:26
 enum-known-told : tie.Need-enum-known-told
 enum-known-told c = search needs
 
--- src/deciding.rt:193:26
 enum-told : tie.Need-enum-told
 enum-told c = search needs
 
--- src/deciding.rt:193:26
 room-requires : tie.Need-room-requires
 room-requires c κs = search needs
 
--- src/deciding.rt:176:1
 returns : tie.Need-returns
 returns c = quota-refused _ _ _ _ _ _ _ _ _ _ (λ time. sym (ap outcomeOf (c .before .told .given .1)) ∙ c .before .before .before .quotas .ensures time)
 
--- src/deciding.rt:176:1
 returns-2 : tie.Need-returns-2
 returns-2 c = quota-passed _ _ _ _ _ _ _ _ _ _ (λ time. sym (ap outcomeOf (c .before .enum-told .given .1)) ∙ c .before .before .before .quotas .ensures time) (c .room .ensures)
 

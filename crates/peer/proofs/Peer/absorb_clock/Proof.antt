@@ -1,12 +1,13 @@
 use Rattle.clock.specs.Vector.{outcomeOf}
 use mathlib.Core.Path.{sym, _∙_}
 use borrow.Author.Tests.{not-true, not-false}
-use Rattle.peer.proofs.Calling.{on-sound, unsound}
+use Rattle.peer.proofs.PeerCalls.{on-sound, unsound}
 use Rattle.peer.specs.Peers.{absorbed}
 use Rattle.peer.specs.Peers.{absorbCall}
 use borrow.Author.Needs.{needs}
 use Rattle.peer.proofs.Peer.absorb_clock.Statement.{statement}
 use Rattle.peer.proofs.Peer.absorb_clock.Tie as tie
+use Rattle.error.specs.Answer.{ends}
 
 is-sound-requires : tie.Need-is-sound-requires
 is-sound-requires c κs = search needs
@@ -26,7 +27,9 @@ with-clock-requires c κs = search needs
 
 returns-2 : tie.Need-returns-2
 unfolding absorbCall
-returns-2 c = on-sound (c .before .before .before .before .before .before .args .self) (sym (c .before .before .before .before .before .is-sound .ensures) ∙ not-false _ (c .before .before .before .before .if1 .left)) _ _ ((λ i. record { answer = outcomeOf (c .before .before .merge .result .outcome); peer = c .with-clock .ensures i }) ∙ (λ i. absorbed (c .before .before .before .before .before .before .args .self) (c .before .before .merge .ensures .called i)))
+returns-2 c =
+    let args = c .before .before .before .before .before .before .args in
+    on-sound (args .self) (sym (c .before .before .before .before .before .is-sound .ensures) ∙ not-false _ (c .before .before .before .before .if1 .left)) _ _ ((λ i. ends (outcomeOf (c .before .before .merge .result .outcome)) (c .with-clock .ensures i)) ∙ (λ i. absorbed (args .self) (c .before .before .merge .ensures .ended i)))
 
 pub absorb-clock-spec : {M : Type 1} → statement M
 absorb-clock-spec =

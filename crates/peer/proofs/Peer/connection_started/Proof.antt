@@ -1,11 +1,11 @@
 use mathlib.Core.Path.{sym, _∙_}
 use borrow.Author.Tests.{not-true, not-false}
-use Rattle.peer.proofs.Calling.{on-sound, unsound}
-use Rattle.peer.specs.Peers.{became}
+use Rattle.peer.proofs.PeerCalls.{on-sound, unsound}
 use Rattle.peer.specs.Peers.{startedCall}
 use borrow.Author.Needs.{needs}
 use Rattle.peer.proofs.Peer.connection_started.Statement.{statement}
 use Rattle.peer.proofs.Peer.connection_started.Tie as tie
+use Rattle.error.specs.Answer.{ends, done, nothing}
 
 is-sound-requires : tie.Need-is-sound-requires
 is-sound-requires c κs = search needs
@@ -25,7 +25,7 @@ done-requires c κs = search needs
 
 returns-2 : tie.Need-returns-2
 unfolding startedCall
-returns-2 c = on-sound (c .before .before .before .before .args .self) (sym (c .before .before .before .is-sound .ensures) ∙ not-false _ (c .before .before .if1 .left)) _ _ (c .done .ensures ∙ (λ i. became (c .before .with-times .ensures i)))
+returns-2 c = on-sound (c .before .before .before .before .args .self) (sym (c .before .before .before .is-sound .ensures) ∙ not-false _ (c .before .before .if1 .left)) _ _ (c .done .ensures ∙ (λ i. ends (done nothing) (c .before .with-times .ensures i)))
 
 pub connection-started-spec : {M : Type 1} → statement M
 connection-started-spec =

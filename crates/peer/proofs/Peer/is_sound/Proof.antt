@@ -1,4 +1,4 @@
-use Rattle.peer.proofs.Calling.{sound-sent, sound-answered, sound-rest}
+use Rattle.peer.proofs.PeerCalls.{sound-sent, sound-answered, sound-rest}
 use borrow.Author.Needs.{needs}
 use Rattle.peer.proofs.Peer.is_sound.Statement.{statement}
 use Rattle.peer.proofs.Peer.is_sound.Tie as tie

@@ -1,6 +1,6 @@
 use mathlib.Core.Path.{sym, _∙_}
 use borrow.Author.Tests.{not-true, not-false}
-use Rattle.peer.proofs.Calling.{few-sent, few-answered, on-sound, unsound}
+use Rattle.peer.proofs.PeerCalls.{few-sent, few-answered, on-sound, unsound}
 use Rattle.peer.specs.Peers.{takePongCall}
 use borrow.Author.Needs.{needs}
 use Rattle.peer.proofs.Peer.ponged.Statement.{statement}

@@ -1,11 +1,12 @@
 use mathlib.Core.Path.{sym, _∙_}
 use borrow.Author.Tests.{not-true, not-false}
-use Rattle.peer.proofs.Calling.{on-sound, unsound}
-use Rattle.peer.specs.Peers.{became, withTimes}
+use Rattle.peer.proofs.PeerCalls.{on-sound, unsound}
+use Rattle.peer.specs.Peers.{withTimes}
 use Rattle.peer.specs.Peers.{rebaseCall}
 use borrow.Author.Needs.{needs}
 use Rattle.peer.proofs.Peer.rebase_timers.Statement.{statement}
 use Rattle.peer.proofs.Peer.rebase_timers.Tie as tie
+use Rattle.error.specs.Answer.{ends, done, nothing}
 
 is-sound-requires : tie.Need-is-sound-requires
 is-sound-requires c κs = search needs
@@ -34,7 +35,10 @@ done-requires c κs = search needs
 
 returns-2 : tie.Need-returns-2
 unfolding rebaseCall
-returns-2 c = on-sound (c .before .before .before .before .before .before .before .args .self) (sym (c .before .before .before .before .before .before .is-sound .ensures) ∙ not-false _ (c .before .before .before .before .before .if1 .left)) _ _ (c .done .ensures ∙ (λ i. became (c .before .with-times .ensures i)) ∙ (λ i. became (withTimes (c .before .before .before .before .before .before .before .args .self) (c .before .before .before .before .before .before .before .args .self .state) (c .before .before .before .before .rebased .ensures i) (c .before .before .before .rebased2 .ensures i) (c .before .before .rebased3 .ensures i))))
+returns-2 c =
+    let at = c .before .before .before .before .before .before in
+    let args = at .before .args in
+    on-sound (args .self) (sym (at .is-sound .ensures) ∙ not-false _ (c .before .before .before .before .before .if1 .left)) _ _ (c .done .ensures ∙ (λ i. ends (done nothing) (c .before .with-times .ensures i)) ∙ (λ i. ends (done nothing) (withTimes (args .self) (args .self .state) (c .before .before .before .before .rebased .ensures i) (c .before .before .before .rebased2 .ensures i) (c .before .before .rebased3 .ensures i))))
 
 pub rebase-timers-spec : {M : Type 1} → statement M
 rebase-timers-spec =

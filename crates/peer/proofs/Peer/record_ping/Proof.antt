@@ -1,10 +1,10 @@
 -- `Peer::record_ping` meets its contract: the walk `changes`, over `pinged`.
--- Assumes nothing.
+--
 use contract.Running.{givenOf, tables, tablesOf}
 use denote.Triple.Spec.{tripleOf}
 use denote.Triple.Table.{entered, cited}
 use Rattle.peer.specs.Peers.{recordPingCall}
-use Rattle.peer.proofs.Lending.{changes}
+use Rattle.peer.proofs.LentPeer.{changes}
 use Rattle.peer.proofs.Peer.pinged as pinged
 use Rattle.peer.proofs.Peer.pinged.Symbol as pinged-def
 use Rattle.peer.proofs.Peer.pinged.Symbol.{name as #pinged}

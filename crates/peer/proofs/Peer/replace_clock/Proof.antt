@@ -1,11 +1,11 @@
 use mathlib.Core.Path.{sym, _∙_}
 use borrow.Author.Tests.{not-true, not-false}
-use Rattle.peer.proofs.Calling.{on-sound, unsound}
-use Rattle.peer.specs.Peers.{became}
+use Rattle.peer.proofs.PeerCalls.{on-sound, unsound}
 use Rattle.peer.specs.Peers.{replaceCall}
 use borrow.Author.Needs.{needs}
 use Rattle.peer.proofs.Peer.replace_clock.Statement.{statement}
 use Rattle.peer.proofs.Peer.replace_clock.Tie as tie
+use Rattle.error.specs.Answer.{ends, done, nothing}
 
 is-sound-requires : tie.Need-is-sound-requires
 is-sound-requires c κs = search needs
@@ -35,7 +35,7 @@ done-requires c κs = search needs
 
 returns-3 : tie.Need-returns-3
 unfolding replaceCall
-returns-3 c = on-sound (c .before .before .before .before .before .before .args .self) (sym (c .before .before .before .before .before .is-sound .ensures) ∙ not-false _ (c .before .before .before .before .if1 .left)) _ _ (c .done .ensures ∙ (λ i. became (c .before .with-clock .ensures i)) ∙ rw (sym (c .before .before .before .is-sound2 .ensures) ∙ not-false _ (c .before .before .if2 .left)))
+returns-3 c = on-sound (c .before .before .before .before .before .before .args .self) (sym (c .before .before .before .before .before .is-sound .ensures) ∙ not-false _ (c .before .before .before .before .if1 .left)) _ _ (c .done .ensures ∙ (λ i. ends (done nothing) (c .before .with-clock .ensures i)) ∙ rw (sym (c .before .before .before .is-sound2 .ensures) ∙ not-false _ (c .before .before .if2 .left)))
 
 pub replace-clock-spec : {M : Type 1} → statement M
 replace-clock-spec =

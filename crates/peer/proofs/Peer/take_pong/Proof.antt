@@ -1,10 +1,10 @@
 -- `Peer::take_pong` meets its contract: the walk `changes`, over `ponged`.
--- Assumes nothing.
+--
 use contract.Running.{givenOf, tables, tablesOf}
 use denote.Triple.Spec.{tripleOf}
 use denote.Triple.Table.{entered, cited}
 use Rattle.peer.specs.Peers.{takePongCall}
-use Rattle.peer.proofs.Lending.{changes}
+use Rattle.peer.proofs.LentPeer.{changes}
 use Rattle.peer.proofs.Peer.ponged as ponged
 use Rattle.peer.proofs.Peer.ponged.Symbol as ponged-def
 use Rattle.peer.proofs.Peer.ponged.Symbol.{name as #ponged}

@@ -1,10 +1,10 @@
 -- `inplace::take_pong` meets its contract: the walk `lends`, over the method.
--- Assumes nothing.
+--
 use contract.Running.{givenOf, tables, tablesOf}
 use denote.Triple.Spec.{tripleOf}
 use denote.Triple.Table.{entered, cited}
 use Rattle.peer.specs.Peers.{takePongCall}
-use Rattle.peer.proofs.Lending.{lends}
+use Rattle.peer.proofs.LentPeer.{lends}
 use Rattle.peer.proofs.Peer.take_pong as method
 use Rattle.peer.proofs.Peer.take_pong.Symbol as method-def
 use Rattle.peer.proofs.Peer.take_pong.Symbol.{name as #method}

@@ -4,7 +4,7 @@ use mathlib.Core.Path.{_≡_, sym, _∙_}
 use native.Mathlib.Omega.{arith}
 use lib.ListN.{length, take, length-map}
 use Rattle.peer.specs.Peers.{nonces}
-use Rattle.peer.proofs.Pinging.{Rest, find-start, find-here, find-turn, find-end}
+use Rattle.peer.proofs.NonceLists.{Rest, find-start, find-here, find-turn, find-end}
 use Rattle.peer.proofs.nonces.find_nonce.Statement.{statement}
 use Rattle.peer.proofs.nonces.find_nonce.Tie as tie
 

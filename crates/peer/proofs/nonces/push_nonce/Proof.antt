@@ -2,7 +2,7 @@ use Prim.Native.Nat.{ℕ}
 use mathlib.Core.Path.{_≡_, sym, _∙_}
 use native.Mathlib.Omega.{arith}
 use lib.ListN.{length, length-map}
-use Rattle.peer.proofs.Pinging.{pushed, pushed-out}
+use Rattle.peer.proofs.NonceLists.{pushed, pushed-out}
 use borrow.Author.Needs.{needs}
 use Rattle.peer.proofs.nonces.push_nonce.Statement.{statement}
 use Rattle.peer.proofs.nonces.push_nonce.Tie as tie
@@ -36,7 +36,9 @@ add-t12 : tie.Need-add-t12
 add-t12 c = search needs
 
 returns : tie.Need-returns
-returns c = pushed (c .before .before .before .before .before .before .before .args .p) (nonces8 (c .before .before .before .before .before .before .before)) (c .before .before .before .before .before .before .before .pre) _ _ (c .before .before .before .before .before .if1 .taken) (c .before .copy .ensures)
+returns c =
+    let at = c .before .before .before .before .before .before .before in
+    pushed (at .args .p) (nonces8 (at)) (at .pre) _ _ (c .before .before .before .before .before .if1 .taken) (c .before .copy .ensures)
 
 slice-aggregate-copy-2 : tie.Need-slice-aggregate-copy-2
 slice-aggregate-copy-2 c = search needs
@@ -57,7 +59,9 @@ array-write-out-2 : tie.Need-array-write-out-2
 array-write-out-2 c = search needs
 
 returns-2 : tie.Need-returns-2
-returns-2 c = pushed-out (c .before .before .before .before .before .before .before .args .p) (nonces8 (c .before .before .before .before .before .before .before)) (c .before .before .before .before .before .before .before .pre) _ _ (c .before .before .before .before .before .if1 .left) (c .before .copy2 .ensures)
+returns-2 c =
+    let at = c .before .before .before .before .before .before .before in
+    pushed-out (at .args .p) (nonces8 (at)) (at .pre) _ _ (c .before .before .before .before .before .if1 .left) (c .before .copy2 .ensures)
 
 pub push-nonce-spec : {M : Type 1} → statement M
 push-nonce-spec =

@@ -2,7 +2,7 @@ use Prim.Native.Nat.{ℕ}
 use mathlib.Core.Path.{_≡_, sym, _∙_}
 use native.Mathlib.Omega.{arith}
 use lib.ListN.{length, length-map}
-use Rattle.peer.proofs.Pinging.{removed}
+use Rattle.peer.proofs.NonceLists.{removed}
 use borrow.Author.Needs.{needs}
 use Rattle.peer.proofs.nonces.remove_nonce.Statement.{statement}
 use Rattle.peer.proofs.nonces.remove_nonce.Tie as tie
@@ -51,7 +51,10 @@ sub-t12 : tie.Need-sub-t12
 sub-t12 c = search needs
 
 returns : tie.Need-returns
-returns c = removed (c .before .before .before .before .before .before .before .before .before .before .before .args .p) (nonces8 (c .before .before .before .before .before .before .before .before .before .before .before)) (c .before .before .before .before .before .before .before .before .before .before .before .pre .0) _ _ _ (c .before .before .before .before .before .before .before .before .before .before .before .pre .1) (c .before .before .before .before .before .before .copy .ensures) (c .before .copy2 .ensures)
+returns c =
+    let at = c .before .before .before .before .before .before in
+    let at₂ = at .before .before .before .before .before in
+    removed (at₂ .args .p) (nonces8 (at₂)) (at₂ .pre .0) _ _ _ (at₂ .pre .1) (at .copy .ensures) (c .before .copy2 .ensures)
 
 pub remove-nonce-spec : {M : Type 1} → statement M
 remove-nonce-spec =

@@ -2,7 +2,7 @@ use Prim.Native.Nat.{ℕ}
 use mathlib.Core.Path.{_≡_, sym, _∙_}
 use native.Mathlib.Omega.{arith}
 use lib.ListN.{length, length-map}
-use Rattle.peer.proofs.Pinging.{tidied}
+use Rattle.peer.proofs.NonceLists.{tidied}
 use borrow.Author.Needs.{needs}
 use Rattle.peer.proofs.nonces.tidy.Statement.{statement}
 use Rattle.peer.proofs.nonces.tidy.Tie as tie
@@ -27,7 +27,9 @@ copy-requires : tie.Need-copy-requires
 copy-requires c κs = search needs
 
 returns : tie.Need-returns
-returns c = tidied (c .before .before .before .before .before .before .args .p) (nonces8 (c .before .before .before .before .before .before)) (c .before .before .before .before .before .before .pre) _ (c .before .copy .ensures)
+returns c =
+    let at = c .before .before .before .before .before .before in
+    tidied (at .args .p) (nonces8 (at)) (at .pre) _ (c .before .copy .ensures)
 
 pub tidy-spec : {M : Type 1} → statement M
 tidy-spec =

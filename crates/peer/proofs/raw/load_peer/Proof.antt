@@ -34,9 +34,10 @@ get-word-requires-5 c κs = search needs
 returns : tie.Need-returns
 unfolding peerAt
 returns c =
+    let at = c .before .before .before .before .before .before in
     λ i. record {
-      id = record { 0 = c .before .before .before .before .before .before .before .before .get-word .ensures i };
-      state = (c .before .before .before .before .before .before .state-of .ensures ∙ ap stateOf (c .before .before .before .before .before .before .before .get-word2 .ensures)) i;
+      id = record { 0 = at .before .before .get-word .ensures i };
+      state = (at .state-of .ensures ∙ ap stateOf (at .before .get-word2 .ensures)) i;
       «remote_clock» = c .before .before .before .before .before .load-clock .ensures i;
       «last_seen_ms» = c .before .before .before .before .get-word3 .ensures i;
       «last_ping_ms» = c .before .before .before .get-word4 .ensures i;

@@ -6,7 +6,7 @@ use lib.ListN.{length, getD, length-set}
 use Rattle.words.specs.Be.{get64}
 use Rattle.words.proofs.Puts.{fill-turn}
 use Rattle.peer.specs.Area.{pingsAt}
-use Rattle.peer.proofs.Stored.{words-are}
+use Rattle.peer.proofs.PeerArea.{words-are}
 use Rattle.peer.proofs.raw.load_pings.Statement.{statement}
 use Rattle.peer.proofs.raw.load_pings.Tie as tie
 

@@ -4,7 +4,7 @@ use mathlib.Core.List.{[], _∷_}
 use lib.ListN.{length, length-map}
 use Rattle.words.specs.Be.{bes}
 use Rattle.words.specs.Areas.{putAt}
-use Rattle.peer.proofs.Stored.{peer-stored}
+use Rattle.peer.proofs.PeerArea.{peer-stored}
 use borrow.Author.Needs.{needs}
 use Rattle.peer.proofs.raw.store_peer.Statement.{statement}
 use Rattle.peer.proofs.raw.store_peer.Tie as tie
@@ -54,10 +54,13 @@ same-length c = search needs
 
 returns : tie.Need-returns
 returns c =
-    let st : tie.Start = (c .before .before .before .before .before .before .before .before .before .before .before .before .before .before .before .before .before .before .before .before .before .before .before .before .before .before .before .before .before .before .before) in
+    let at = c .before .before .before .before .before .before in
+    let at₂ = at .before .before .before .before .before .before .before .before in
+    let at₃ = at₂ .before .before .before .before .before .before .before .before .before in
+    let st : tie.Start = (at₃ .before .before .before .before .before .before .before .before) in
     peer-stored (st .args .p) (authors32 st) (numbers32 st) (sent8 st) (answered8 st) (st .args .s .now) _ _ _ _ _ _ (st .pre)
-    (c .before .before .before .before .before .before .before .before .before .before .before .before .before .before .before .before .before .before .before .before .before .before .before .put-words .ensures ∙ (λ i. putAt (st .args .s .now) 0 (bes (st .args .p .id .0 ∷ c .before .before .before .before .before .before .before .before .before .before .before .before .before .before .before .before .before .before .before .before .before .before .before .before .before .before .state-number .ensures i ∷ []))))
-    (c .before .before .before .before .before .before .before .before .before .before .before .before .before .before .before .before .before .before .before .store-clock .ensures) (c .before .before .before .before .before .before .before .before .before .before .before .before .before .before .put-words2 .ensures) (c .before .before .before .before .before .before .before .before .before .before .store-pings .ensures) (c .before .before .before .before .before .before .store-pings2 .ensures) (c .before .before .put-word .ensures)
+    (at₃ .put-words .ensures ∙ (λ i. putAt (st .args .s .now) 0 (bes (st .args .p .id .0 ∷ at₃ .before .before .before .state-number .ensures i ∷ []))))
+    (at₂ .before .before .before .before .before .store-clock .ensures) (at₂ .put-words2 .ensures) (at .before .before .before .before .store-pings .ensures) (at .store-pings2 .ensures) (c .before .before .put-word .ensures)
 
 pub store-peer-spec : {M : Type 1} → statement M
 store-peer-spec =

@@ -2,7 +2,7 @@ use Prim.Native.Nat.{ℕ}
 use mathlib.Core.Path.{_≡_, sym, _∙_}
 use native.Mathlib.Omega.{arith}
 use lib.ListN.{length, length-map}
-use Rattle.peer.proofs.Stored.{pings-stored}
+use Rattle.peer.proofs.PeerArea.{pings-stored}
 use borrow.Author.Needs.{needs}
 use Rattle.peer.proofs.raw.store_pings.Statement.{statement}
 use Rattle.peer.proofs.raw.store_pings.Tie as tie
@@ -27,7 +27,10 @@ same-length : tie.Need-same-length
 same-length c = search needs
 
 returns : tie.Need-returns
-returns c = pings-stored (c .before .before .before .before .before .before .before .before .before .before .before .args .p) (c .before .before .before .before .before .before .before .before .before .before .before .args .s .now) _ _ (c .before .before .before .before .before .before .before .before .before .before .before .args .at) (nonces8 (c .before .before .before .before .before .before .before .before .before .before .before)) (c .before .before .before .before .before .before .before .before .before .before .before .pre) (c .before .before .before .before .before .before .before .put-word .ensures) (c .before .before .put-words .ensures)
+returns c =
+    let at = c .before .before .before .before .before .before .before in
+    let at₂ = at .before .before .before .before in
+    pings-stored (at₂ .args .p) (at₂ .args .s .now) _ _ (at₂ .args .at) (nonces8 (at₂)) (at₂ .pre) (at .put-word .ensures) (c .before .before .put-words .ensures)
 
 pub store-pings-spec : {M : Type 1} → statement M
 store-pings-spec =

@@ -1,10 +1,10 @@
 use mathlib.Core.Path.{sym, _∙_, ap}
 use Rattle.row.specs.Rows.{Row}
-use Rattle.row.specs.Pieces.{headOf}
-use Rattle.working.proofs.Rows.{ok-held, ok-batch, row-held, row-batch, head-fields, no-head}
+use Rattle.working.proofs.ReferenceRows.{ok-held, ok-batch, row-held, row-batch, head-fields, no-head}
 use borrow.Author.Needs.{needs}
 use Rattle.quota.proofs.authors.author_of.Statement.{statement}
 use Rattle.quota.proofs.authors.author_of.Tie as tie
+use Rattle.row.specs.Values.{headOf}
 
 mul-read-actor : tie.Need-mul-read-actor
 mul-read-actor c = search needs

@@ -1,4 +1,4 @@
-use Rattle.quota.proofs.Counting.{over-none, over-loaded}
+use Rattle.quota.proofs.AuthorCounts.{over-none, over-loaded}
 use borrow.Author.Needs.{needs}
 use Rattle.quota.proofs.authors.author_over.Statement.{statement}
 use Rattle.quota.proofs.authors.author_over.Tie as tie

@@ -2,7 +2,7 @@ use borrow.Author.Needs.{needs}
 use Prim.Native.Nat.{_-_, _≤_}
 use mathlib.Core.Logic.{⊎-elim}
 use native.Mathlib.Omega.{arith}
-use Rattle.quota.proofs.Counting.{Counted, count-start, count-yes, count-no, count-end}
+use Rattle.quota.proofs.AuthorCounts.{Counted, count-start, count-yes, count-no, count-end}
 use Rattle.quota.proofs.authors.count_of.Statement.{statement}
 use Rattle.quota.proofs.authors.count_of.Tie as tie
 

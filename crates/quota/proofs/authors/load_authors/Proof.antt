@@ -4,7 +4,7 @@ use mathlib.Core.Path.{_≡_, _∙_, ap}
 use native.Mathlib.Omega.{arith}
 use lib.ListN.{length, length-set}
 use Rattle.words.specs.Be.{get64}
-use Rattle.quota.proofs.Counting.{ref-at, Loaded, load-start, load-turn, load-end}
+use Rattle.quota.proofs.AuthorCounts.{ref-at, Loaded, load-start, load-turn, load-end}
 use Rattle.quota.proofs.authors.load_authors.Statement.{statement}
 use Rattle.quota.proofs.authors.load_authors.Tie as tie
 

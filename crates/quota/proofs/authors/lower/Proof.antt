@@ -1,6 +1,6 @@
 use borrow.Author.Needs.{needs}
 use Rattle.merging.specs.Merging.{lower}
-use Rattle.quota.proofs.Counting.{lower-found, lower-new}
+use Rattle.quota.proofs.AuthorCounts.{lower-found, lower-new}
 use Rattle.quota.proofs.authors.lower.Statement.{statement}
 use Rattle.quota.proofs.authors.lower.Tie as tie
 

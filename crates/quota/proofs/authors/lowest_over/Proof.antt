@@ -3,8 +3,8 @@ use Prim.Native.Nat.{_-_, _≤_}
 use mathlib.Core.Path.{refl, ap, _∙_}
 use mathlib.Core.Logic.{⊎-elim}
 use native.Mathlib.Omega.{arith}
-use Rattle.quota.specs.Authors.{overOf}
-use Rattle.quota.proofs.Counting.{Lowest, lowest-start, lowest-yes, lowest-no, lowest-end}
+use Rattle.quota.specs.inside.Authors.{overOf}
+use Rattle.quota.proofs.AuthorCounts.{Lowest, lowest-start, lowest-yes, lowest-no, lowest-end}
 use Rattle.quota.proofs.authors.lowest_over.Statement.{statement}
 use Rattle.quota.proofs.authors.lowest_over.Tie as tie
 
@@ -36,7 +36,9 @@ loop-less : tie.Need-loop-less Inv-loop μ-loop
 loop-less c = omega arith
 
 loop-again : tie.Need-loop-again Inv-loop μ-loop
-loop-again c = ⊎-elim (λ w. (omega arith, lowest-yes _ _ _ _ (c .before .before .before .before .loop .i) _ _ (c .before .before .before .loop-test .taken) (c .before .before .before .before .before .before .pre) refl (c .before .count-of .ensures) (c .before .before .before .before .loop .inv .1) _ (w .0 .taken) (ap overOf (w .2) ∙ w .1 .ensures))) (λ w. (omega arith, lowest-no _ _ _ _ (c .before .before .before .before .loop .i) _ _ (c .before .before .before .loop-test .taken) (c .before .before .before .before .before .before .pre) refl (c .before .count-of .ensures) (c .before .before .before .before .loop .inv .1) _ (w .0 .left) (ap overOf (w .1)))) (c .if1 .came)
+loop-again c =
+    let at = c .before .before .before .before .before .before in
+    ⊎-elim (λ w. (omega arith, lowest-yes _ _ _ _ (c .before .before .before .before .loop .i) _ _ (c .before .before .before .loop-test .taken) (at .pre) refl (c .before .count-of .ensures) (c .before .before .before .before .loop .inv .1) _ (w .0 .taken) (ap overOf (w .2) ∙ w .1 .ensures))) (λ w. (omega arith, lowest-no _ _ _ _ (c .before .before .before .before .loop .i) _ _ (c .before .before .before .loop-test .taken) (at .pre) refl (c .before .count-of .ensures) (c .before .before .before .before .loop .inv .1) _ (w .0 .left) (ap overOf (w .1)))) (c .if1 .came)
 
 returns : tie.Need-returns Inv-loop μ-loop
 returns c = lowest-end _ _ _ _ (c .before .loop .i) (c .loop-test .left) (c .before .before .before .pre) (c .before .loop .inv .1)

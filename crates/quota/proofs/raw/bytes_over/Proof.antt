@@ -1,4 +1,4 @@
-use Rattle.quota.proofs.Counting.{bytes-within, bytes-are}
+use Rattle.quota.proofs.AuthorCounts.{bytes-within, bytes-are}
 use borrow.Author.Needs.{needs}
 use Rattle.quota.proofs.raw.bytes_over.Statement.{statement}
 use Rattle.quota.proofs.raw.bytes_over.Tie as tie

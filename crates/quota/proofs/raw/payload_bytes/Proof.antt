@@ -3,7 +3,7 @@ use Prim.Native.Nat.{_-_, _≤_, _*_}
 use mathlib.Core.Path.{_∙_, ap}
 use native.Mathlib.Omega.{arith}
 use Rattle.words.specs.Be.{get64}
-use Rattle.quota.proofs.Counting.{ref-at, Summed, sum-start, sum-turn, sum-end}
+use Rattle.quota.proofs.AuthorCounts.{ref-at, Summed, sum-start, sum-turn, sum-end}
 use Rattle.quota.proofs.raw.payload_bytes.Statement.{statement}
 use Rattle.quota.proofs.raw.payload_bytes.Tie as tie
 

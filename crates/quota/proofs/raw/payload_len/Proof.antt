@@ -1,8 +1,8 @@
 use Prim.Native.Nat.{_-_, _*_}
 use native.Mathlib.Omega.{arith}
-use Rattle.row.proofs.Ops.{in-area}
-use Rattle.working.proofs.Rows.{ok-held, ok-batch, row-held, row-batch}
-use Rattle.quota.proofs.Counting.{held-payload, batch-payload}
+use Rattle.row.proofs.Operations.{in-area}
+use Rattle.working.proofs.ReferenceRows.{ok-held, ok-batch, row-held, row-batch}
+use Rattle.quota.proofs.AuthorCounts.{held-payload, batch-payload}
 use borrow.Author.Needs.{needs}
 use Rattle.quota.proofs.raw.payload_len.Statement.{statement}
 use Rattle.quota.proofs.raw.payload_len.Tie as tie

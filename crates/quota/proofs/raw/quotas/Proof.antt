@@ -1,6 +1,6 @@
 use mathlib.Core.Path.{sym, _∙_, ap}
-use Rattle.quota.specs.Authors.{overOf}
-use Rattle.quota.proofs.Counting.{quota-rows, quota-bytes, quota-done, quota-over}
+use Rattle.quota.specs.inside.Authors.{overOf}
+use Rattle.quota.proofs.AuthorCounts.{quota-rows, quota-bytes, quota-done, quota-over}
 use borrow.Author.Needs.{needs}
 use Rattle.quota.proofs.raw.quotas.Statement.{statement}
 use Rattle.quota.proofs.raw.quotas.Tie as tie

@@ -1,6 +1,6 @@
 use native.Mathlib.Omega.{arith}
-use Rattle.log.proofs.Changing.{sound-long}
-use Rattle.quota.proofs.Fitting.{sound-count, sound-marked, room-full, room-clock, room-marks, room-done}
+use Rattle.log.proofs.calls.Changes.{sound-long}
+use Rattle.quota.proofs.RoomTest.{sound-count, sound-marked, room-full, room-clock, room-marks, room-done}
 use borrow.Author.Needs.{needs}
 use Rattle.quota.proofs.raw.room.Statement.{statement}
 use Rattle.quota.proofs.raw.room.Tie as tie
@@ -21,7 +21,9 @@ returns-2 : tie.Need-returns-2
 returns-2 c = room-clock _ _ _ _ _ _ _ _ _ (c .before .before .before .get-word .ensures) (c .before .before .capacity .ensures) (c .before .if1 .left) (c .if2 .taken)
 
 marks-fit-requires : tie.Need-marks-fit-requires
-marks-fit-requires c κs = (c .before .before .before .before .before .before .before .before .before .pre .1, c .before .before .before .before .before .before .before .before .before .pre .2, sound-marked _ _ (c .before .before .before .before .before .before .before .before .before .pre .0))
+marks-fit-requires c κs =
+    let at = c .before .before .before .before .before .before .before .before .before in
+    (at .pre .1, at .pre .2, sound-marked _ _ (at .pre .0))
 
 returns-3 : tie.Need-returns-3
 returns-3 c = room-marks _ _ _ _ _ _ _ _ _ (c .before .before .before .before .before .get-word .ensures) (c .before .before .before .before .capacity .ensures) (c .before .before .before .if1 .left) (c .before .before .if2 .left) _ (c .before .marks-fit .ensures) (c .if3 .taken)

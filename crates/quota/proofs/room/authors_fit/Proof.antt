@@ -4,9 +4,9 @@ use mathlib.Core.Path.{_∙_, ap}
 use native.Mathlib.Omega.{arith}
 use Rattle.words.specs.Be.{get64}
 use Rattle.clock.specs.Vector.{changedOf, outcomeOf}
-use Rattle.log.proofs.Restoring.{entries-few}
-use Rattle.quota.proofs.Counting.{ref-at}
-use Rattle.quota.proofs.Fitting.{Running, run-start, run-turn, run-not, run-end}
+use Rattle.log.proofs.calls.Restoration.{entries-few}
+use Rattle.quota.proofs.AuthorCounts.{ref-at}
+use Rattle.quota.proofs.RoomTest.{Running, run-start, run-turn, run-not, run-end}
 use Rattle.quota.proofs.room.authors_fit.Statement.{statement}
 use Rattle.quota.proofs.room.authors_fit.Tie as tie
 
@@ -41,7 +41,9 @@ enum-told-2 : tie.Need-enum-told-2 Inv-loop μ-loop
 enum-told-2 c = search needs
 
 returns : tie.Need-returns Inv-loop μ-loop
-returns c = run-not _ _ _ _ _ _ (c .before .before .before .before .before .before .loop .i) _ _ (changedOf (c .before .before .observed .result)) (c .before .before .before .before .before .loop-test .taken) (c .before .before .before .before .before .before .loop .inv .1) (c .before .before .before .before .get-word .ensures) (c .before .before .before .author-of .ensures) (c .before .before .observed .ensures) _ (ap outcomeOf (c .enum-told2 .given .1))
+returns c =
+    let at = c .before .before .before .before .before .before in
+    run-not _ _ _ _ _ _ (at .loop .i) _ _ (changedOf (c .before .before .observed .result)) (c .before .before .before .before .before .loop-test .taken) (at .loop .inv .1) (c .before .before .before .before .get-word .ensures) (c .before .before .before .author-of .ensures) (c .before .before .observed .ensures) _ (ap outcomeOf (c .enum-told2 .given .1))
 
 add-i : tie.Need-add-i Inv-loop μ-loop
 add-i c = search needs
@@ -50,7 +52,10 @@ loop-less : tie.Need-loop-less Inv-loop μ-loop
 loop-less c = search needs
 
 loop-again : tie.Need-loop-again Inv-loop μ-loop
-loop-again c = (search needs, run-turn _ _ _ _ _ _ (c .before .before .before .before .before .before .before .loop .i) _ _ (changedOf (c .before .before .before .observed .result)) (c .before .before .before .before .before .before .loop-test .taken) (c .before .before .before .before .before .before .before .loop .inv .1) (c .before .before .before .before .before .get-word .ensures) (c .before .before .before .before .author-of .ensures) (c .before .before .before .observed .ensures) (ap outcomeOf (c .before .enum-told .given .1)))
+loop-again c =
+    let at = c .before .before .before .before .before .before in
+    let at₂ = at .before in
+    (search needs, run-turn _ _ _ _ _ _ (at₂ .loop .i) _ _ (changedOf (c .before .before .before .observed .result)) (at .loop-test .taken) (at₂ .loop .inv .1) (c .before .before .before .before .before .get-word .ensures) (c .before .before .before .before .author-of .ensures) (c .before .before .before .observed .ensures) (ap outcomeOf (c .before .enum-told .given .1)))
 
 returns-2 : tie.Need-returns-2 Inv-loop μ-loop
 returns-2 c = run-end _ _ _ _ _ _ (c .before .loop .i) (c .loop-test .left) (c .before .loop .inv .1)

@@ -7,8 +7,8 @@ use lib.ListN.{length, drop, getD, length-set}
 use Rattle.words.specs.Be.{get64}
 use Rattle.words.proofs.Puts.{fill-turn}
 use Rattle.clock.specs.Vector.{zeros}
-use Rattle.clock.proofs.Clocks.{zeros-replicate}
-use Rattle.quota.proofs.Fitting.{marked-entries, marked-sound, zeros-turn}
+use Rattle.clock.proofs.ClockEntries.{zeros-replicate}
+use Rattle.quota.proofs.RoomTest.{marked-entries, marked-sound, zeros-turn}
 use Rattle.quota.proofs.room.marked_authors.Statement.{statement}
 use Rattle.quota.proofs.room.marked_authors.Tie as tie
 

@@ -1,5 +1,5 @@
 use borrow.Author.Needs.{needs}
-use Rattle.sync.proofs.Turns.{one-is, most-is}
+use Rattle.sync.proofs.DeltaLoops.{one-is, most-is}
 use Rattle.sync.proofs.chunk.at_least_one.Statement.{statement}
 use Rattle.sync.proofs.chunk.at_least_one.Tie as tie
 

@@ -1,4 +1,4 @@
-use Rattle.sync.proofs.Turns.{size-is}
+use Rattle.sync.proofs.DeltaLoops.{size-is}
 use borrow.Author.Needs.{needs}
 use Rattle.sync.proofs.chunk.row_size.Statement.{statement}
 use Rattle.sync.proofs.chunk.row_size.Tie as tie

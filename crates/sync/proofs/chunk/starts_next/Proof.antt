@@ -1,5 +1,5 @@
 use borrow.Author.Needs.{needs}
-use Rattle.sync.proofs.Turns.{next-empty, next-full, next-large}
+use Rattle.sync.proofs.DeltaLoops.{next-empty, next-full, next-large}
 use Rattle.sync.proofs.chunk.starts_next.Statement.{statement}
 use Rattle.sync.proofs.chunk.starts_next.Tie as tie
 

@@ -4,7 +4,7 @@ use mathlib.Core.Path.{_≡_, refl, sym, _∙_, ap}
 use native.Mathlib.Omega.{arith}
 use borrow.Author.Tests.{not-true, not-false}
 use Rattle.clock.specs.Vector.{entries}
-use Rattle.sync.proofs.Turns.{Chunking, chunking-start, chunking-skip, chunking-put, chunking-grow, chunking-none, chunking-last}
+use Rattle.sync.proofs.DeltaLoops.{Chunking, chunking-start, chunking-skip, chunking-put, chunking-grow, chunking-none, chunking-last}
 use Rattle.sync.proofs.chunk.write_chunks.Statement.{statement}
 use Rattle.sync.proofs.chunk.write_chunks.Tie as tie
 
@@ -54,7 +54,10 @@ loop-less-2 : tie.Need-loop-less-2 Inv-loop μ-loop
 loop-less-2 c = search needs
 
 loop-again-2 : tie.Need-loop-again-2 Inv-loop μ-loop
-loop-again-2 c = chunking-put _ _ _ _ _ _ _ (c .before .before .before .before .before .before .before .before .before .before .loop .i) (c .before .before .before .before .before .before .before .before .before .before .loop .k) (c .before .before .before .before .before .before .before .before .before .before .loop .count) (c .before .before .before .before .before .before .before .before .before .before .loop .size) (c .before .before .before .before .before .before .before .before .before .before .loop .inv) (c .before .before .before .before .before .before .before .before .before .loop-test .taken) (sym (not-false _ (c .before .before .before .before .before .before .before .if1 .left)) ∙ c .before .before .before .before .before .before .before .before .is-missing .ensures) _ (c .before .before .before .before .before .before .row-size .ensures .0) (c .before .before .before .before .before .before .row-size .ensures .1) _ (sym (c .before .before .before .before .if2 .taken) ∙ c .before .before .before .before .before .starts-next .ensures) (c .before .before .before .before .before .before .before .before .before .before .before .before .before .pre .room) (c .before .before .put-word .ensures)
+loop-again-2 c =
+    let at = c .before .before .before .before .before .before in
+    let at₂ = at .before .before .before .before in
+    chunking-put _ _ _ _ _ _ _ (at₂ .loop .i) (at₂ .loop .k) (at₂ .loop .count) (at₂ .loop .size) (at₂ .loop .inv) (at .before .before .before .loop-test .taken) (sym (not-false _ (at .before .if1 .left)) ∙ at .before .before .is-missing .ensures) _ (at .row-size .ensures .0) (at .row-size .ensures .1) _ (sym (c .before .before .before .before .if2 .taken) ∙ c .before .before .before .before .before .starts-next .ensures) (at₂ .before .before .before .pre .room) (c .before .before .put-word .ensures)
 
 add-count : tie.Need-add-count Inv-loop μ-loop
 add-count c = search needs
@@ -66,7 +69,9 @@ loop-less-3 : tie.Need-loop-less-3 Inv-loop μ-loop
 loop-less-3 c = search needs
 
 loop-again-3 : tie.Need-loop-again-3 Inv-loop μ-loop
-loop-again-3 c = chunking-grow _ _ _ _ _ _ _ (c .before .before .before .before .before .before .loop .i) (c .before .before .before .before .before .before .loop .k) (c .before .before .before .before .before .before .loop .count) (c .before .before .before .before .before .before .loop .size) (c .before .before .before .before .before .before .loop .inv) (c .before .before .before .before .before .loop-test .taken) (sym (not-false _ (c .before .before .before .if1 .left)) ∙ c .before .before .before .before .is-missing .ensures) _ (c .before .before .row-size .ensures .0) (c .before .before .row-size .ensures .1) (sym (c .if2 .left) ∙ c .before .starts-next .ensures)
+loop-again-3 c =
+    let at = c .before .before .before .before .before .before in
+    chunking-grow _ _ _ _ _ _ _ (at .loop .i) (at .loop .k) (at .loop .count) (at .loop .size) (at .loop .inv) (c .before .before .before .before .before .loop-test .taken) (sym (not-false _ (c .before .before .before .if1 .left)) ∙ c .before .before .before .before .is-missing .ensures) _ (c .before .before .row-size .ensures .0) (c .before .before .row-size .ensures .1) (sym (c .if2 .left) ∙ c .before .starts-next .ensures)
 
 same-length : tie.Need-same-length Inv-loop μ-loop
 same-length c = c .before .before .loop .inv .listing .same
@@ -87,7 +92,9 @@ same-length-2 : tie.Need-same-length-2 Inv-loop μ-loop
 same-length-2 c = search needs
 
 returns-2 : tie.Need-returns-2 Inv-loop μ-loop
-returns-2 c = chunking-last _ _ _ _ _ _ _ (c .before .before .before .before .before .before .loop .i) (c .before .before .before .before .before .before .loop .k) (c .before .before .before .before .before .before .loop .count) _ (c .before .before .before .before .before .before .loop .inv) _ (omega (arith, c .before .before .before .before .before .loop-test .left)) (c .before .before .before .before .if3 .left) (c .before .before .before .before .before .before .before .before .before .pre .room) (c .before .before .put-word2 .ensures)
+returns-2 c =
+    let at = c .before .before .before .before .before .before in
+    chunking-last _ _ _ _ _ _ _ (at .loop .i) (at .loop .k) (at .loop .count) _ (at .loop .inv) _ (omega (arith, c .before .before .before .before .before .loop-test .left)) (c .before .before .before .before .if3 .left) (at .before .before .before .pre .room) (c .before .before .put-word2 .ensures)
 
 pub write-chunks-spec : {M : Type 1} → statement M
 write-chunks-spec =

@@ -1,13 +1,13 @@
 use borrow.Author.Needs.{needs}
 use Prim.Native.Nat.{_+_, _-_, _≤_}
 use mathlib.Core.Logic.{⊎-elim}
-use Rattle.words.specs.Areas.{ZeroIn}
 use Rattle.words.specs.Choice.{Tells}
 use Rattle.words.proofs.Words.{block-none, block-zero, block-other, block-all}
 use Rattle.words.proofs.raw.block_is_zero.Statement.{statement}
 use Rattle.words.proofs.raw.block_is_zero.Tie as tie
 use Rattle.words.proofs.raw.block_is_zero.Reads as reads
 use Rattle.words.proofs.raw.block_is_zero.Lts as lts
+use Rattle.words.specs.inside.Moves.{ZeroIn}
 
 abbrev Inv-loop : tie.InvT-loop
 Inv-loop s at n zero₀ i₀ zero i = (i ≤ n) × Tells (ZeroIn s at (at + i)) zero

@@ -2,14 +2,14 @@ use borrow.Author.Needs.{needs}
 use Prim.Native.Nat.{_-_, _≤_}
 use native.Mathlib.Omega.{arith}
 use lib.ListN.{length}
-use Rattle.words.specs.Areas.{ZeroIn}
-use Rattle.words.specs.Choice.Tells.{no}
+use Rattle.words.specs.Choice.Tells.{is-false}
 use Rattle.words.proofs.Words.{in-none, in-more, zero-not-in, last-tells}
 use Rattle.words.proofs.raw.blocks_are_zero.Statement.{statement}
 use Rattle.words.proofs.raw.blocks_are_zero.Tie as tie
 use Rattle.words.proofs.raw.blocks_are_zero.Reads as reads
 use Rattle.words.proofs.raw.blocks_are_zero.Lts as lts
 use Rattle.words.proofs.raw.block_is_zero.Reads as block-is-zero-reads
+use Rattle.words.specs.inside.Moves.{ZeroIn}
 
 abbrev Inv-loop : tie.InvT-loop
 Inv-loop s n i₀ i = (i ≤ length s) × ZeroIn s 0 i
@@ -27,7 +27,7 @@ block-is-zero-requires : tie.Need-block-is-zero-requires Inv-loop μ-loop
 block-is-zero-requires c κs = search needs
 
 returns : tie.Need-returns Inv-loop μ-loop
-returns c = no (zero-not-in (c .before .before .before .before .before .args .s .now) _ _ _ (search needs) (c .before .block-is-zero .ensures) (c .if1 .taken))
+returns c = is-false (zero-not-in (c .before .before .before .before .before .args .s .now) _ _ _ (search needs) (c .before .block-is-zero .ensures) (c .if1 .taken))
 
 add-i : tie.Need-add-i Inv-loop μ-loop
 add-i c = search needs

@@ -1,11 +1,11 @@
 use borrow.Author.Needs.{needs}
 use native.Mathlib.Omega.{arith}
-use Rattle.words.specs.Be.{get32}
 use Rattle.words.proofs.raw.get_half.Statement.{statement}
 use Rattle.words.proofs.raw.get_half.Tie as tie
 use Rattle.words.proofs.raw.get_half.Reads as reads
 use Rattle.words.proofs.raw.get_half.Lts as lts
 use Rattle.words.proofs.raw.wide.Reads as wide-reads
+use Rattle.words.specs.inside.Moves.{get32}
 
 shared-slice-read-wide : tie.Need-shared-slice-read-wide
 shared-slice-read-wide c = search needs

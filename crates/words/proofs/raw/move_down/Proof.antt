@@ -3,12 +3,12 @@ use Prim.Native.Nat.{ℕ, _≤_, _<_, _-_}
 use mathlib.Core.Path.{_≡_}
 use native.Mathlib.Omega.{arith}
 use lib.ListN.{length}
-use Rattle.words.specs.Areas.{movedDown}
 use Rattle.words.proofs.Moves.{down-none, down-turn, down-all}
 use Rattle.words.proofs.raw.move_down.Statement.{statement}
 use Rattle.words.proofs.raw.move_down.Tie as tie
 use Rattle.words.proofs.raw.move_down.Reads as reads
 use Rattle.words.proofs.raw.move_down.Lts as lts
+use Rattle.words.specs.inside.Moves.{movedDown}
 
 abbrev Inv-loop : tie.InvT-loop
 Inv-loop s₀ from to by i₀ s i = (from ≤ i) × (i ≤ to) × (length s ≡ length s₀) × (s ≡ movedDown from i by s₀)
@@ -16,39 +16,30 @@ Inv-loop s₀ from to by i₀ s i = (from ≤ i) × (i ≤ to) × (length s ≡ 
 abbrev μ-loop : tie.MeasureT-loop
 μ-loop s₀ from to by i₀ s i = to - i
 
--- src/raw.rt:88:5
 loop-holds : tie.Need-loop-holds Inv-loop μ-loop
 loop-holds c = (search needs, search needs, search needs, down-none _ _ _)
 
--- src/raw.rt:89:21
 slice-read-s : tie.Need-slice-read-s Inv-loop μ-loop
 slice-read-s c = search needs
 
--- src/raw.rt:89:11
 sub-s : tie.Need-sub-s Inv-loop μ-loop
 sub-s c = search needs
 
--- src/raw.rt:89:9
 slice-write-s : tie.Need-slice-write-s Inv-loop μ-loop
 slice-write-s c = search needs
 
--- src/raw.rt:90:9
 add-i : tie.Need-add-i Inv-loop μ-loop
 add-i c = search needs
 
--- src/raw.rt:88:5
 loop-less : tie.Need-loop-less Inv-loop μ-loop
 loop-less c = search needs
 
--- src/raw.rt:88:5
 loop-again : tie.Need-loop-again Inv-loop μ-loop
 loop-again c = (search needs, search needs, search needs, down-turn _ _ _ _ _ (c .before .before .loop .inv .3) (search needs) (search needs) (search needs))
 
--- src/raw.rt:83:1
 same-length : tie.Need-same-length Inv-loop μ-loop
 same-length c = search needs
 
--- src/raw.rt:83:1
 returns : tie.Need-returns Inv-loop μ-loop
 returns c = down-all _ _ _ _ _ _ (c .before .loop .inv .3) (omega arith)
 

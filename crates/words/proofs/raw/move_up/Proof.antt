@@ -3,12 +3,12 @@ use Prim.Native.Nat.{ℕ, _+_, _-_, _*_, _≤_, _<_}
 use mathlib.Core.Path.{_≡_, sym}
 use native.Mathlib.Omega.{arith}
 use lib.ListN.{length}
-use Rattle.words.specs.Areas.{movedUp}
 use Rattle.words.proofs.Moves.{up-none, up-turn, up-all}
 use Rattle.words.proofs.raw.move_up.Statement.{statement}
 use Rattle.words.proofs.raw.move_up.Tie as tie
 use Rattle.words.proofs.raw.move_up.Reads as reads
 use Rattle.words.proofs.raw.move_up.Lts as lts
+use Rattle.words.specs.inside.Moves.{movedUp}
 
 abbrev Inv-loop : tie.InvT-loop
 Inv-loop s₀ from to by i₀ s i = (from ≤ i) × (i ≤ to) × (length s ≡ length s₀) × (s ≡ movedUp i to by s₀)

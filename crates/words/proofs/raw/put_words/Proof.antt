@@ -19,47 +19,38 @@ Inv-loop s₀ at ws i₀ s i = (i ≤ length ws) × (length s ≡ length s₀) �
 abbrev μ-loop : tie.MeasureT-loop
 μ-loop s₀ at ws i₀ s i = length ws - i
 
--- src/raw.rt:52:5
 loop-holds : tie.Need-loop-holds Inv-loop μ-loop
 loop-holds c = (search needs, search needs, words-none _ [] _)
 
--- src/raw.rt:53:26
 mul-put-word : tie.Need-mul-put-word Inv-loop μ-loop
 mul-put-word c = search needs
 
--- src/raw.rt:53:21
 add-put-word : tie.Need-add-put-word Inv-loop μ-loop
 add-put-word c = search needs
 
--- src/raw.rt:53:33
 mul-put-word-2 : tie.Need-mul-put-word-2 Inv-loop μ-loop
 mul-put-word-2 c = search needs
 
--- src/raw.rt:53:33
 shared-slice-read-put-word : tie.Need-shared-slice-read-put-word Inv-loop μ-loop
 shared-slice-read-put-word c = search needs
 
--- src/raw.rt:53:9
 put-word-requires : tie.Need-put-word-requires Inv-loop μ-loop
 put-word-requires c κs = search needs
 
--- src/raw.rt:54:9
 add-i : tie.Need-add-i Inv-loop μ-loop
 add-i c = search needs
 
--- src/raw.rt:52:5
 loop-less : tie.Need-loop-less Inv-loop μ-loop
 loop-less c = search needs
 
--- src/raw.rt:52:5
 loop-again : tie.Need-loop-again Inv-loop μ-loop
-loop-again c = (search needs, search needs, words-turn _ _ _ _ _ (c .before .before .before .before .before .before .loop .i) (c .before .before .before .before .before .before .loop .inv .2) (c .before .before .put-word .ensures) (search needs) (search needs))
+loop-again c =
+    let at = c .before .before .before .before .before .before in
+    (search needs, search needs, words-turn _ _ _ _ _ (at .loop .i) (at .loop .inv .2) (c .before .before .put-word .ensures) (search needs) (search needs))
 
--- src/raw.rt:47:1
 same-length : tie.Need-same-length Inv-loop μ-loop
 same-length c = search needs
 
--- src/raw.rt:47:1
 returns : tie.Need-returns Inv-loop μ-loop
 returns c = words-done _ _ _ _ (c .before .loop .i) (c .before .loop .inv .2) (omega arith)
 

@@ -1,7 +1,7 @@
 use borrow.Author.Needs.{needs}
 use Prim.Native.Nat.{_-_, _≤_}
 use native.Mathlib.Omega.{arith}
-use Rattle.working.proofs.Same.{LeftSame, bytes-start, bytes-long, bytes-not, bytes-turn, bytes-end}
+use Rattle.working.proofs.ContentEquality.{LeftSame, bytes-start, bytes-long, bytes-not, bytes-turn, bytes-end}
 use Rattle.working.proofs.contents.same_bytes.Statement.{statement}
 use Rattle.working.proofs.contents.same_bytes.Tie as tie
 

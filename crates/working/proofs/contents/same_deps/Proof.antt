@@ -3,7 +3,7 @@ use Prim.Native.Nat.{ℕ, _-_, _≤_}
 use mathlib.Core.Path.{_≡_, sym, _∙_}
 use native.Mathlib.Omega.{arith}
 use lib.ListN.{length, length-map}
-use Rattle.working.proofs.Same.{LeftDeps, deps-start, deps-count, deps-author, deps-number, deps-turn, deps-end}
+use Rattle.working.proofs.ContentEquality.{LeftDeps, deps-start, deps-count, deps-author, deps-number, deps-turn, deps-end}
 use Rattle.working.proofs.contents.same_deps.Statement.{statement}
 use Rattle.working.proofs.contents.same_deps.Tie as tie
 
@@ -45,7 +45,9 @@ element-copy-out-if2-2 : tie.Need-element-copy-out-if2-2 Inv-loop μ-loop
 element-copy-out-if2-2 c = search needs
 
 returns-2 : tie.Need-returns-2 Inv-loop μ-loop
-returns-2 c = deps-author _ _ (p-authors (c .before .before .before .before .before .before)) (p-numbers (c .before .before .before .before .before .before)) (q-authors (c .before .before .before .before .before .before)) (q-numbers (c .before .before .before .before .before .before)) (c .before .before .before .before .before .before .pre .0) (c .before .before .before .before .before .before .pre .1) (c .before .before .before .before .loop .i) (c .before .before .before .before .before .if1 .left) (search needs) (c .if2 .taken) (c .before .before .before .before .loop .inv .1)
+returns-2 c =
+    let at = c .before .before .before .before .before .before in
+    deps-author _ _ (p-authors (at)) (p-numbers (at)) (q-authors (at)) (q-numbers (at)) (at .pre .0) (at .pre .1) (c .before .before .before .before .loop .i) (c .before .before .before .before .before .if1 .left) (search needs) (c .if2 .taken) (c .before .before .before .before .loop .inv .1)
 
 mul-if3 : tie.Need-mul-if3 Inv-loop μ-loop
 mul-if3 c = search needs
@@ -60,7 +62,10 @@ element-copy-out-if3-2 : tie.Need-element-copy-out-if3-2 Inv-loop μ-loop
 element-copy-out-if3-2 c = search needs
 
 returns-3 : tie.Need-returns-3 Inv-loop μ-loop
-returns-3 c = deps-number _ _ (p-authors (c .before .before .before .before .before .before .before .before .before)) (p-numbers (c .before .before .before .before .before .before .before .before .before)) (q-authors (c .before .before .before .before .before .before .before .before .before)) (q-numbers (c .before .before .before .before .before .before .before .before .before)) (c .before .before .before .before .before .before .before .before .before .pre .0) (c .before .before .before .before .before .before .before .before .before .pre .1) (c .before .before .before .before .before .before .before .loop .i) (c .before .before .before .before .before .before .before .before .if1 .left) (search needs) (c .before .before .before .if2 .left) (c .if3 .taken) (c .before .before .before .before .before .before .before .loop .inv .1)
+returns-3 c =
+    let at = c .before .before .before .before .before .before .before in
+    let at₂ = at .before .before in
+    deps-number _ _ (p-authors (at₂)) (p-numbers (at₂)) (q-authors (at₂)) (q-numbers (at₂)) (at₂ .pre .0) (at₂ .pre .1) (at .loop .i) (at .before .if1 .left) (search needs) (c .before .before .before .if2 .left) (c .if3 .taken) (at .loop .inv .1)
 
 add-i : tie.Need-add-i Inv-loop μ-loop
 add-i c = search needs
@@ -69,7 +74,10 @@ loop-less : tie.Need-loop-less Inv-loop μ-loop
 loop-less c = search needs
 
 loop-again : tie.Need-loop-again Inv-loop μ-loop
-loop-again c = (search needs, deps-turn _ _ (p-authors (c .before .before .before .before .before .before .before .before .before)) (p-numbers (c .before .before .before .before .before .before .before .before .before)) (q-authors (c .before .before .before .before .before .before .before .before .before)) (q-numbers (c .before .before .before .before .before .before .before .before .before)) (c .before .before .before .before .before .before .before .before .before .pre .0) (c .before .before .before .before .before .before .before .before .before .pre .1) (c .before .before .before .before .before .before .before .loop .i) (c .before .before .before .before .before .before .before .before .if1 .left) (search needs) (c .before .before .before .if2 .left) (c .if3 .left) (c .before .before .before .before .before .before .before .loop .inv .1))
+loop-again c =
+    let at = c .before .before .before .before .before .before .before in
+    let at₂ = at .before .before in
+    (search needs, deps-turn _ _ (p-authors (at₂)) (p-numbers (at₂)) (q-authors (at₂)) (q-numbers (at₂)) (at₂ .pre .0) (at₂ .pre .1) (at .loop .i) (at .before .if1 .left) (search needs) (c .before .before .before .if2 .left) (c .if3 .left) (at .loop .inv .1))
 
 returns-4 : tie.Need-returns-4 Inv-loop μ-loop
 returns-4 c = deps-end _ _ (p-authors (c .before .before .before)) (p-numbers (c .before .before .before)) (q-authors (c .before .before .before)) (q-numbers (c .before .before .before)) (c .before .before .before .pre .0) (c .before .before .before .pre .1) (c .before .loop .i) (c .before .before .if1 .left) (omega arith) (c .before .loop .inv .1)

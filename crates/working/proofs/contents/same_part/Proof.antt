@@ -1,6 +1,6 @@
 use Prim.Native.Nat.{_-_}
 use mathlib.Core.Path.{refl}
-use Rattle.working.proofs.Same.{same-to}
+use Rattle.working.proofs.ContentEquality.{same-to}
 use borrow.Author.Needs.{needs}
 use Rattle.working.proofs.contents.same_part.Statement.{statement}
 use Rattle.working.proofs.contents.same_part.Tie as tie

@@ -1,8 +1,8 @@
 use Prim.Native.Nat.{_*_, _-_}
 use mathlib.Core.Path.{sym, _∙_}
-use Rattle.row.proofs.Ops.{read-op-row}
-use Rattle.working.proofs.Rows.{ok-held, ok-batch, row-held, row-batch}
-use Rattle.working.proofs.Enter.{read-row-at, read-fits, same-rows}
+use Rattle.row.proofs.Operations.{read-op-row}
+use Rattle.working.proofs.ReferenceRows.{ok-held, ok-batch, row-held, row-batch}
+use Rattle.working.proofs.Entrance.{read-row-at, read-fits, same-rows}
 use borrow.Author.Needs.{needs}
 use Rattle.working.proofs.contents.same_ref.Statement.{statement}
 use Rattle.working.proofs.contents.same_ref.Tie as tie
@@ -17,7 +17,9 @@ same-content-requires : tie.Need-same-content-requires
 same-content-requires c κs = search needs
 
 returns : tie.Need-returns
-returns c = same-rows _ _ _ _ (read-op-row (c .before .before .before .before .before .before .args .held .now) (704 * c .before .before .before .before .before .before .args .k) (ok-held _ _ _ (c .before .before .before .if1 .taken) (c .before .before .before .before .before .before .pre .0)) _ (c .before .before .read-slot .ensures .0) ∙ sym (row-held _ _ _ (c .before .before .before .if1 .taken))) (c .same-content .ensures)
+returns c =
+    let at = c .before .before .before .before .before .before in
+    same-rows _ _ _ _ (read-op-row (at .args .held .now) (704 * at .args .k) (ok-held _ _ _ (c .before .before .before .if1 .taken) (at .pre .0)) _ (c .before .before .read-slot .ensures .0) ∙ sym (row-held _ _ _ (c .before .before .before .if1 .taken))) (c .same-content .ensures)
 
 read-row-requires : tie.Need-read-row-requires
 read-row-requires c κs = search needs

@@ -1,5 +1,5 @@
 use native.Mathlib.Omega.{arith}
-use Rattle.working.proofs.Enter.{puts}
+use Rattle.working.proofs.Entrance.{puts}
 use borrow.Author.Needs.{needs}
 use Rattle.working.proofs.entering.enter.Statement.{statement}
 use Rattle.working.proofs.entering.enter.Tie as tie
@@ -20,7 +20,10 @@ same-length-2 : tie.Need-same-length-2
 same-length-2 c = search needs
 
 returns : tie.Need-returns
-returns c = λ held batch x. puts held batch _ _ _ _ _ _ _ _ x (c .before .before .before .before .before .before .before .before .place .ensures .0 held batch _ (x .keyed)) (c .before .before .before .before .before .before .before .before .place .ensures .1) (c .before .before .before .before .before .before .put-entry .ensures) (c .before .before .put-key .ensures) (omega arith)
+returns c =
+    let at = c .before .before .before .before .before .before in
+    let at₂ = at .before .before in
+    λ held batch x. puts held batch _ _ _ _ _ _ _ _ x (at₂ .place .ensures .0 held batch _ (x .keyed)) (at₂ .place .ensures .1) (at .put-entry .ensures) (c .before .before .put-key .ensures) (omega arith)
 
 pub enter-spec : {M : Type 1} → statement M
 enter-spec =

@@ -1,4 +1,4 @@
-use Rattle.working.proofs.Same.{as-before}
+use Rattle.working.proofs.ContentEquality.{as-before}
 use borrow.Author.Needs.{needs}
 use Rattle.working.proofs.entering.goes_before.Statement.{statement}
 use Rattle.working.proofs.entering.goes_before.Tie as tie

@@ -3,10 +3,10 @@ use Prim.Native.Nat.{ℕ, _-_, _≤_}
 use mathlib.Core.Path.{refl}
 use mathlib.Core.List.{List}
 use native.Mathlib.Omega.{arith}
-use Rattle.working.specs.Keys.{Keyed}
-use Rattle.working.specs.Looks.{beforeRef}
-use Rattle.working.proofs.Enter.{found-place, none-place}
-use Rattle.working.proofs.Searching.{LeftFirst, first-start, first-here, first-turn, first-end}
+use Rattle.working.specs.inside.Keys.{Keyed}
+use Rattle.working.specs.inside.Looks.{beforeRef}
+use Rattle.working.proofs.Entrance.{found-place, none-place}
+use Rattle.working.proofs.FirstReference.{LeftFirst, first-start, first-here, first-turn, first-end}
 use Rattle.working.proofs.entering.place.Statement.{statement}
 use Rattle.working.proofs.entering.place.Tie as tie
 

@@ -1,5 +1,5 @@
-use Rattle.working.specs.Keys.{keyAt}
-use Rattle.working.proofs.Same.{id-author, id-seq}
+use Rattle.working.specs.inside.Keys.{keyAt}
+use Rattle.working.proofs.ContentEquality.{id-author, id-seq}
 use borrow.Author.Needs.{needs}
 use Rattle.working.proofs.entering.same_id.Statement.{statement}
 use Rattle.working.proofs.entering.same_id.Tie as tie

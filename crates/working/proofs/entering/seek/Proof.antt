@@ -3,9 +3,9 @@ use Prim.Native.Nat.{ℕ, _-_, _≤_}
 use mathlib.Core.Path.{refl}
 use mathlib.Core.List.{List}
 use native.Mathlib.Omega.{arith}
-use Rattle.working.specs.Keys.{Keyed}
-use Rattle.working.specs.Looks.{idRef}
-use Rattle.working.proofs.Searching.{LeftFirst, first-start, first-here, first-turn, first-end}
+use Rattle.working.specs.inside.Keys.{Keyed}
+use Rattle.working.specs.inside.Looks.{idRef}
+use Rattle.working.proofs.FirstReference.{LeftFirst, first-start, first-here, first-turn, first-end}
 use Rattle.working.proofs.entering.seek.Statement.{statement}
 use Rattle.working.proofs.entering.seek.Tie as tie
 

@@ -1,4 +1,4 @@
-use Rattle.working.specs.Keys.{keyAt}
+use Rattle.working.specs.inside.Keys.{keyAt}
 use borrow.Author.Needs.{needs}
 use Rattle.working.proofs.keys.key_at.Statement.{statement}
 use Rattle.working.proofs.keys.key_at.Tie as tie

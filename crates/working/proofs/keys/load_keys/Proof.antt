@@ -3,8 +3,8 @@ use Prim.Native.Nat.{_-_, _≤_}
 use mathlib.Core.Path.{_≡_}
 use native.Mathlib.Omega.{arith}
 use lib.ListN.{length}
-use Rattle.working.proofs.Cells.{refs-of, ref-there}
-use Rattle.working.proofs.Keying.{KeyedTo, keyed-none, keyed-turn, keyed-end}
+use Rattle.working.proofs.ScratchColumns.{refs-of, ref-there}
+use Rattle.working.proofs.KeyTable.{KeyedTo, keyed-none, keyed-turn, keyed-end}
 use Rattle.working.proofs.keys.load_keys.Statement.{statement}
 use Rattle.working.proofs.keys.load_keys.Tie as tie
 

@@ -3,7 +3,7 @@ use Prim.Native.Nat.{_≤_}
 use mathlib.Core.Path.{_≡_}
 use native.Mathlib.Omega.{arith}
 use lib.ListN.{length}
-use Rattle.working.proofs.Keying.{KeyGap, key-gap, key-up, key-in}
+use Rattle.working.proofs.KeyTable.{KeyGap, key-gap, key-up, key-in}
 use Rattle.working.proofs.keys.put_key.Statement.{statement}
 use Rattle.working.proofs.keys.put_key.Tie as tie
 

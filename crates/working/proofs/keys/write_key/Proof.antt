@@ -1,6 +1,6 @@
 use native.Mathlib.Omega.{arith}
 use lib.ListN.{length-set}
-use Rattle.working.proofs.Keying.{key-written}
+use Rattle.working.proofs.KeyTable.{key-written}
 use borrow.Author.Needs.{needs}
 use Rattle.working.proofs.keys.write_key.Statement.{statement}
 use Rattle.working.proofs.keys.write_key.Tie as tie

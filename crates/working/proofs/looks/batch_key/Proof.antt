@@ -1,10 +1,10 @@
 use Prim.Native.Nat.{_-_}
 use mathlib.Core.Path.{refl, sym, _∙_, ap}
-use Rattle.row.specs.Pieces.{headOf}
-use Rattle.working.proofs.Rows.{no-head, head-key}
+use Rattle.working.proofs.ReferenceRows.{no-head, head-key}
 use borrow.Author.Needs.{needs}
 use Rattle.working.proofs.looks.batch_key.Statement.{statement}
 use Rattle.working.proofs.looks.batch_key.Tie as tie
+use Rattle.row.specs.Values.{headOf}
 
 read-head-requires : tie.Need-read-head-requires
 read-head-requires c κs = search needs

@@ -1,10 +1,10 @@
 use borrow.Author.Needs.{needs}
 use Prim.Native.Nat.{_-_, _≤_}
 use native.Mathlib.Omega.{arith}
-use Rattle.working.specs.Ticks.{ticks}
-use Rattle.working.specs.Looks.{readyRef}
-use Rattle.working.proofs.Cells.{refs-of, ref-there}
-use Rattle.working.proofs.Searching.{LeftFirst, first-start, first-here, first-turn, first-end}
+use Rattle.working.specs.inside.DrainClock.{ticks}
+use Rattle.working.specs.inside.Looks.{readyRef}
+use Rattle.working.proofs.ScratchColumns.{refs-of, ref-there}
+use Rattle.working.proofs.FirstReference.{LeftFirst, first-start, first-here, first-turn, first-end}
 use Rattle.working.proofs.looks.first_ready.Statement.{statement}
 use Rattle.working.proofs.looks.first_ready.Tie as tie
 

@@ -2,7 +2,7 @@ use Prim.Native.Nat.{suc, _-_}
 use mathlib.Core.Path.{sym}
 use native.Mathlib.Omega.{arith}
 use borrow.Author.Tests.{le-leb}
-use Rattle.working.proofs.Rows.{reach}
+use Rattle.working.proofs.ReferenceRows.{reach}
 use borrow.Author.Needs.{needs}
 use Rattle.working.proofs.looks.in_reach.Statement.{statement}
 use Rattle.working.proofs.looks.in_reach.Tie as tie

@@ -2,7 +2,7 @@ use Prim.Native.Nat.{suc, _-_}
 use mathlib.Core.Path.{sym}
 use native.Mathlib.Omega.{arith}
 use borrow.Author.Tests.{ne-eqb}
-use Rattle.working.proofs.Rows.{next-is}
+use Rattle.working.proofs.ReferenceRows.{next-is}
 use borrow.Author.Needs.{needs}
 use Rattle.working.proofs.looks.is_next.Statement.{statement}
 use Rattle.working.proofs.looks.is_next.Tie as tie

@@ -1,5 +1,5 @@
 use Prim.Native.Nat.{_-_}
-use Rattle.working.proofs.Rows.{ok-held, ok-batch, ready-held, ready-batch}
+use Rattle.working.proofs.ReferenceRows.{ok-held, ok-batch, ready-held, ready-batch}
 use borrow.Author.Needs.{needs}
 use Rattle.working.proofs.looks.is_ready.Statement.{statement}
 use Rattle.working.proofs.looks.is_ready.Tie as tie

@@ -1,5 +1,5 @@
 use Prim.Native.Nat.{_-_}
-use Rattle.working.proofs.Rows.{ok-held, ok-batch, key-held, key-batch}
+use Rattle.working.proofs.ReferenceRows.{ok-held, ok-batch, key-held, key-batch}
 use borrow.Author.Needs.{needs}
 use Rattle.working.proofs.looks.load_key.Statement.{statement}
 use Rattle.working.proofs.looks.load_key.Tie as tie

@@ -3,9 +3,9 @@ use Prim.Native.Nat.{ℕ, _-_, _≤_}
 use mathlib.Core.Path.{_≡_, refl, sym, _∙_}
 use native.Mathlib.Omega.{arith}
 use lib.ListN.{length, length-map}
-use Rattle.row.specs.Views.{depsOf}
-use Rattle.working.specs.Ticks.{ticks}
-use Rattle.working.proofs.Rows.{LeftMet, met-turn, met-not, met-end, value-length, value-next}
+use Rattle.row.specs.Values.{depsOf}
+use Rattle.working.specs.inside.DrainClock.{ticks}
+use Rattle.working.proofs.ReferenceRows.{LeftMet, met-turn, met-not, met-end, value-length, value-next}
 use Rattle.working.proofs.looks.met_deps.Statement.{statement}
 use Rattle.working.proofs.looks.met_deps.Tie as tie
 
@@ -41,7 +41,9 @@ clock-get-requires : tie.Need-clock-get-requires Inv-loop μ-loop
 clock-get-requires c κs = search needs
 
 returns : tie.Need-returns Inv-loop μ-loop
-returns c = met-not _ _ (c .before .before .before .before .before .loop .i) _ _ _ (value-next (c .before .before .before .before .before .before .before .before .args .t1) (authors16 (c .before .before .before .before .before .before .before .before)) (numbers16 (c .before .before .before .before .before .before .before .before)) (c .before .before .before .before .before .before .before .before .pre .0) (c .before .before .before .before .before .loop .i) (search needs)) (c .before .clock-get .ensures) (c .if1 .taken) (c .before .before .before .before .before .loop .inv .1)
+returns c =
+    let at = c .before .before .before .before .before .before .before .before in
+    met-not _ _ (c .before .before .before .before .before .loop .i) _ _ _ (value-next (at .args .t1) (authors16 (at)) (numbers16 (at)) (at .pre .0) (c .before .before .before .before .before .loop .i) (search needs)) (c .before .clock-get .ensures) (c .if1 .taken) (c .before .before .before .before .before .loop .inv .1)
 
 add-i : tie.Need-add-i Inv-loop μ-loop
 add-i c = search needs
@@ -50,7 +52,9 @@ loop-less : tie.Need-loop-less Inv-loop μ-loop
 loop-less c = search needs
 
 loop-again : tie.Need-loop-again Inv-loop μ-loop
-loop-again c = (omega arith, met-turn _ _ (c .before .before .before .before .before .loop .i) _ _ _ (value-next (c .before .before .before .before .before .before .before .before .args .t1) (authors16 (c .before .before .before .before .before .before .before .before)) (numbers16 (c .before .before .before .before .before .before .before .before)) (c .before .before .before .before .before .before .before .before .pre .0) (c .before .before .before .before .before .loop .i) (search needs)) (c .before .clock-get .ensures) (c .if1 .left) (c .before .before .before .before .before .loop .inv .1))
+loop-again c =
+    let at = c .before .before .before .before .before .before .before .before in
+    (omega arith, met-turn _ _ (c .before .before .before .before .before .loop .i) _ _ _ (value-next (at .args .t1) (authors16 (at)) (numbers16 (at)) (at .pre .0) (c .before .before .before .before .before .loop .i) (search needs)) (c .before .clock-get .ensures) (c .if1 .left) (c .before .before .before .before .before .loop .inv .1))
 
 returns-2 : tie.Need-returns-2 Inv-loop μ-loop
 returns-2 c = met-end _ _ (c .before .loop .i) _ (value-length _ (authors16 (c .before .before .before .before)) (numbers16 (c .before .before .before .before)) (c .before .before .before .before .pre .0)) (omega arith) (c .before .loop .inv .1)

@@ -2,10 +2,10 @@ use borrow.Author.Needs.{needs}
 use Prim.Native.Nat.{_-_, _≤_}
 use mathlib.Core.Path.{refl}
 use native.Mathlib.Omega.{arith}
-use Rattle.row.proofs.Ops.{in-area}
+use Rattle.row.proofs.Operations.{in-area}
 use Rattle.row.specs.Slots.{slotAt, decodeHeld}
-use Rattle.working.specs.Ticks.{ticks}
-use Rattle.working.proofs.Rows.{LeftMet, met-turn, met-not, met-end, slot-few, slot-length, slot-next}
+use Rattle.working.specs.inside.DrainClock.{ticks}
+use Rattle.working.proofs.ReferenceRows.{LeftMet, met-turn, met-not, met-end, slot-few, slot-length, slot-next}
 use Rattle.working.proofs.looks.met_slot.Statement.{statement}
 use Rattle.working.proofs.looks.met_slot.Tie as tie
 
@@ -28,25 +28,37 @@ mul-at : tie.Need-mul-at Inv-loop μ-loop
 mul-at c = omega arith
 
 add-at : tie.Need-add-at Inv-loop μ-loop
-add-at c = omega (arith, in-area (c .before .before .before .before .before .before .args .held .now) (c .before .before .before .before .before .before .args .base) (c .before .before .before .before .before .before .pre .0))
+add-at c =
+    let at = c .before .before .before .before .before .before in
+    omega (arith, in-area (at .args .held .now) (at .args .base) (at .pre .0))
 
 add-get-word-2 : tie.Need-add-get-word-2 Inv-loop μ-loop
-add-get-word-2 c = omega (arith, in-area (c .before .before .before .before .before .before .args .held .now) (c .before .before .before .before .before .before .args .base) (c .before .before .before .before .before .before .pre .0))
+add-get-word-2 c =
+    let at = c .before .before .before .before .before .before in
+    omega (arith, in-area (at .args .held .now) (at .args .base) (at .pre .0))
 
 get-word-requires-2 : tie.Need-get-word-requires-2 Inv-loop μ-loop
-get-word-requires-2 c κs = omega (arith, in-area (c .before .before .before .before .before .before .args .held .now) (c .before .before .before .before .before .before .args .base) (c .before .before .before .before .before .before .pre .0))
+get-word-requires-2 c κs =
+    let at = c .before .before .before .before .before .before in
+    omega (arith, in-area (at .args .held .now) (at .args .base) (at .pre .0))
 
 add-get-word-3 : tie.Need-add-get-word-3 Inv-loop μ-loop
-add-get-word-3 c = omega (arith, in-area (c .before .before .before .before .before .before .before .args .held .now) (c .before .before .before .before .before .before .before .args .base) (c .before .before .before .before .before .before .before .pre .0))
+add-get-word-3 c =
+    let at = c .before .before .before .before .before .before .before in
+    omega (arith, in-area (at .args .held .now) (at .args .base) (at .pre .0))
 
 get-word-requires-3 : tie.Need-get-word-requires-3 Inv-loop μ-loop
-get-word-requires-3 c κs = omega (arith, in-area (c .before .before .before .before .before .before .before .args .held .now) (c .before .before .before .before .before .before .before .args .base) (c .before .before .before .before .before .before .before .pre .0))
+get-word-requires-3 c κs =
+    let at = c .before .before .before .before .before .before .before in
+    omega (arith, in-area (at .args .held .now) (at .args .base) (at .pre .0))
 
 clock-get-requires : tie.Need-clock-get-requires Inv-loop μ-loop
 clock-get-requires c κs = search needs
 
 returns : tie.Need-returns Inv-loop μ-loop
-returns c = met-not _ _ (c .before .before .before .before .before .loop .i) _ _ _ (slot-next _ _ (c .before .before .before .before .before .before .before .before .before .before .pre .0) _ _ _ _ (c .before .before .before .before .before .before .get-word .ensures) (search needs) (c .before .before .before .get-word2 .ensures) (c .before .before .get-word3 .ensures)) (c .before .clock-get .ensures) (c .if1 .taken) (c .before .before .before .before .before .loop .inv .2)
+returns c =
+    let at = c .before .before .before .before .before .before in
+    met-not _ _ (c .before .before .before .before .before .loop .i) _ _ _ (slot-next _ _ (at .before .before .before .before .pre .0) _ _ _ _ (at .get-word .ensures) (search needs) (c .before .before .before .get-word2 .ensures) (c .before .before .get-word3 .ensures)) (c .before .clock-get .ensures) (c .if1 .taken) (c .before .before .before .before .before .loop .inv .2)
 
 add-i : tie.Need-add-i Inv-loop μ-loop
 add-i c = search needs
@@ -55,7 +67,9 @@ loop-less : tie.Need-loop-less Inv-loop μ-loop
 loop-less c = search needs
 
 loop-again : tie.Need-loop-again Inv-loop μ-loop
-loop-again c = (omega arith, omega arith, met-turn _ _ (c .before .before .before .before .before .loop .i) _ _ _ (slot-next _ _ (c .before .before .before .before .before .before .before .before .before .before .pre .0) _ _ _ _ (c .before .before .before .before .before .before .get-word .ensures) (search needs) (c .before .before .before .get-word2 .ensures) (c .before .before .get-word3 .ensures)) (c .before .clock-get .ensures) (c .if1 .left) (c .before .before .before .before .before .loop .inv .2))
+loop-again c =
+    let at = c .before .before .before .before .before .before in
+    (omega arith, omega arith, met-turn _ _ (c .before .before .before .before .before .loop .i) _ _ _ (slot-next _ _ (at .before .before .before .before .pre .0) _ _ _ _ (at .get-word .ensures) (search needs) (c .before .before .before .get-word2 .ensures) (c .before .before .get-word3 .ensures)) (c .before .clock-get .ensures) (c .if1 .left) (c .before .before .before .before .before .loop .inv .2))
 
 returns-2 : tie.Need-returns-2 Inv-loop μ-loop
 returns-2 c = met-end _ _ (c .before .loop .i) _ (slot-length _ _ (c .before .before .before .before .before .before .pre .0) _ (c .before .before .get-word .ensures)) (omega arith) (c .before .loop .inv .2)

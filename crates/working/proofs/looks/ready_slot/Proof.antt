@@ -1,6 +1,6 @@
 use Prim.Native.Nat.{_-_}
 use mathlib.Core.Path.{refl}
-use Rattle.working.proofs.Rows.{ready-not, ready-met}
+use Rattle.working.proofs.ReferenceRows.{ready-not, ready-met}
 use borrow.Author.Needs.{needs}
 use Rattle.working.proofs.looks.ready_slot.Statement.{statement}
 use Rattle.working.proofs.looks.ready_slot.Tie as tie

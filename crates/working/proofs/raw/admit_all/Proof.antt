@@ -1,4 +1,4 @@
-use Rattle.working.proofs.Batches.{admits-by}
+use Rattle.working.proofs.AdmissionLoop.{admits-by}
 use borrow.Author.Needs.{needs}
 use Rattle.working.proofs.raw.admit_all.Statement.{statement}
 use Rattle.working.proofs.raw.admit_all.Tie as tie
@@ -28,7 +28,10 @@ slice-aggregate-admit-by-3 : tie.Need-slice-aggregate-admit-by-3
 slice-aggregate-admit-by-3 c = search needs
 
 admit-by-requires : tie.Need-admit-by-requires
-admit-by-requires c κs = (c .before .before .before .before .before .before .before .before .before .before .before .before .before .before .before .before .before .before .pre .0, c .before .before .before .before .before .before .before .before .before .before .before .before .before .before .before .before .before .before .pre .1, c .before .before .before .before .before .before .before .before .before .before .before .before .before .before .before .before .before .before .pre .2, c .before .before .before .before .before .before .before .before .before .before .before .before .before .before .before .before .before .before .pre .3, c .before .before .before .before .before .before .before .before .before .before .before .before .before .before .before .before .before .before .pre .4, c .before .before .before .before .before .before .before .before .before .before .start-clock .ensures .1 .0, c .before .before .before .before .before .load-keys .ensures, search needs)
+admit-by-requires c κs =
+    let at = c .before .before .before .before .before .before .before .before .before .before in
+    let at₂ = at .before .before .before .before .before .before .before .before in
+    (at₂ .pre .0, at₂ .pre .1, at₂ .pre .2, at₂ .pre .3, at₂ .pre .4, at .start-clock .ensures .1 .0, c .before .before .before .before .before .load-keys .ensures, search needs)
 
 same-length : tie.Need-same-length
 same-length c = search needs

@@ -1,5 +1,5 @@
 use Prim.Native.Nat.{_-_}
-use Rattle.working.proofs.Emptying.{drains-from}
+use Rattle.working.proofs.DrainLoop.{drains-from}
 use borrow.Author.Needs.{needs}
 use Rattle.working.proofs.raw.drain.Statement.{statement}
 use Rattle.working.proofs.raw.drain.Tie as tie

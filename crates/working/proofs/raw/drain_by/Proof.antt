@@ -2,7 +2,7 @@ use borrow.Author.Needs.{needs}
 use Prim.Native.Nat.{_-_}
 use mathlib.Core.Path.{sym, _∙_}
 use native.Mathlib.Omega.{arith}
-use Rattle.working.proofs.Emptying.{Going, going-start, going-working, going-end, turn, word-room, found-ref, take-needs, push-room, put-needs, going-drop, going-log}
+use Rattle.working.proofs.DrainLoop.{Going, going-start, going-working, going-end, turn, word-room, found-ref, take-needs, push-room, put-needs, going-drop, going-log}
 use Rattle.working.proofs.raw.drain_by.Statement.{statement}
 use Rattle.working.proofs.raw.drain_by.Tie as tie
 
@@ -46,37 +46,70 @@ load-key-requires : tie.Need-load-key-requires Inv-loop μ-loop
 load-key-requires c κs = found-ref (c .before .before .before .before .before .before .before .before .before .loop .inv) _ (sym (c .before .before .before .j .given .1) ∙ c .before .before .before .before .before .first-ready .ensures) _ (c .get-word .ensures)
 
 take-entry-requires : tie.Need-take-entry-requires Inv-loop μ-loop
-take-entry-requires c κs = take-needs (c .before .before .before .before .before .before .before .before .before .before .before .loop .inv) _ (sym (c .before .before .before .before .before .j .given .1) ∙ c .before .before .before .before .before .before .before .first-ready .ensures)
+take-entry-requires c κs =
+    let at = c .before .before .before .before .before .before .before in
+    take-needs (at .before .before .before .before .loop .inv) _ (sym (c .before .before .before .before .before .j .given .1) ∙ at .first-ready .ensures)
 
 sub-left : tie.Need-sub-left Inv-loop μ-loop
-sub-left c = omega (arith, turn (c .before .before .before .before .before .before .before .before .before .before .before .before .before .before .loop .inv) _ (sym (c .before .before .before .before .before .before .before .before .j .given .1) ∙ c .before .before .before .before .before .before .before .before .before .before .first-ready .ensures) .0, turn (c .before .before .before .before .before .before .before .before .before .before .before .before .before .before .loop .inv) _ (sym (c .before .before .before .before .before .before .before .before .j .given .1) ∙ c .before .before .before .before .before .before .before .before .before .before .first-ready .ensures) .1)
+sub-left c =
+    let at = c .before .before .before .before .before .before .before .before in
+    let at₂ = at .before .before in
+    let at₃ = at₂ .before .before .before .before in
+    omega (arith, turn (at₃ .loop .inv) _ (sym (at .j .given .1) ∙ at₂ .first-ready .ensures) .0, turn (at₃ .loop .inv) _ (sym (at .j .given .1) ∙ at₂ .first-ready .ensures) .1)
 
 next-of-requires : tie.Need-next-of-requires Inv-loop μ-loop
 next-of-requires c κs = c .before .before .before .before .before .before .before .before .before .before .before .before .before .before .before .before .before .loop .inv .clocked
 
 push-logged-requires : tie.Need-push-logged-requires Inv-loop μ-loop
-push-logged-requires c κs = omega (arith, push-room (c .before .before .before .before .before .before .before .before .before .before .before .before .before .before .before .before .before .before .before .before .loop .inv) _ (sym (c .before .before .before .before .before .before .before .before .before .before .before .before .before .before .j .given .1) ∙ c .before .before .before .before .before .before .before .before .before .before .before .before .before .before .before .before .first-ready .ensures))
+push-logged-requires c κs =
+    let at = c .before .before .before .before .before .before .before .before .before .before .before .before .before .before in
+    omega (arith, push-room (at .before .before .before .before .before .before .loop .inv) _ (sym (at .j .given .1) ∙ at .before .before .first-ready .ensures))
 
 add-logged : tie.Need-add-logged Inv-loop μ-loop
-add-logged c = omega (arith, turn (c .before .before .before .before .before .before .before .before .before .before .before .before .before .before .before .before .before .before .before .before .before .before .before .loop .inv) _ (sym (c .before .before .before .before .before .before .before .before .before .before .before .before .before .before .before .before .before .j .given .1) ∙ c .before .before .before .before .before .before .before .before .before .before .before .before .before .before .before .before .before .before .before .first-ready .ensures) .0, turn (c .before .before .before .before .before .before .before .before .before .before .before .before .before .before .before .before .before .before .before .before .before .before .before .loop .inv) _ (sym (c .before .before .before .before .before .before .before .before .before .before .before .before .before .before .before .before .before .j .given .1) ∙ c .before .before .before .before .before .before .before .before .before .before .before .before .before .before .before .before .before .before .before .first-ready .ensures) .1)
+add-logged c =
+    let at = c .before .before .before .before .before .before .before .before .before .before .before .before .before .before .before .before .before in
+    let at₂ = at .before .before in
+    let at₃ = at₂ .before .before .before .before in
+    omega (arith, turn (at₃ .loop .inv) _ (sym (at .j .given .1) ∙ at₂ .first-ready .ensures) .0, turn (at₃ .loop .inv) _ (sym (at .j .given .1) ∙ at₂ .first-ready .ensures) .1)
 
 clock-put-requires : tie.Need-clock-put-requires Inv-loop μ-loop
-clock-put-requires c κs = put-needs (c .before .before .before .before .before .before .before .before .before .before .before .before .before .before .before .before .before .before .before .before .before .before .before .before .before .loop .inv) _ (sym (c .before .before .before .before .before .before .before .before .before .before .before .before .before .before .before .before .before .before .before .j .given .1) ∙ c .before .before .before .before .before .before .before .before .before .before .before .before .before .before .before .before .before .before .before .before .before .first-ready .ensures)
+clock-put-requires c κs =
+    let at = c .before .before .before .before .before .before .before .before .before .before .before .before .before .before .before .before .before .before .before in
+    put-needs (at .before .before .before .before .before .before .loop .inv) _ (sym (at .j .given .1) ∙ at .before .before .first-ready .ensures)
 
 loop-less : tie.Need-loop-less Inv-loop μ-loop
-loop-less c = omega (arith, turn (c .before .before .before .before .before .before .before .before .before .before .before .before .before .before .before .before .before .before .before .before .before .before .before .before .before .before .before .before .before .before .loop .inv) _ (sym (c .before .before .before .before .before .before .before .before .before .before .before .before .before .before .before .before .before .before .before .before .before .before .before .before .j .given .1) ∙ c .before .before .before .before .before .before .before .before .before .before .before .before .before .before .before .before .before .before .before .before .before .before .before .before .before .before .first-ready .ensures) .0, turn (c .before .before .before .before .before .before .before .before .before .before .before .before .before .before .before .before .before .before .before .before .before .before .before .before .before .before .before .before .before .before .loop .inv) _ (sym (c .before .before .before .before .before .before .before .before .before .before .before .before .before .before .before .before .before .before .before .before .before .before .before .before .j .given .1) ∙ c .before .before .before .before .before .before .before .before .before .before .before .before .before .before .before .before .before .before .before .before .before .before .before .before .before .before .first-ready .ensures) .1)
+loop-less c =
+    let at = c .before .before .before .before .before .before .before .before .before .before .before .before .before .before .before .before .before .before .before .before .before .before .before .before in
+    let at₂ = at .before .before in
+    let at₃ = at₂ .before .before .before .before in
+    omega (arith, turn (at₃ .loop .inv) _ (sym (at .j .given .1) ∙ at₂ .first-ready .ensures) .0, turn (at₃ .loop .inv) _ (sym (at .j .given .1) ∙ at₂ .first-ready .ensures) .1)
 
 loop-again : tie.Need-loop-again Inv-loop μ-loop
-loop-again c = going-log (c .before .before .before .before .before .before .before .before .before .before .before .before .before .before .before .before .before .before .before .before .before .before .before .before .before .before .before .before .before .before .loop .inv) _ _ _ _ _ (sym (c .before .before .before .before .before .before .before .before .before .before .before .before .before .before .before .before .before .before .before .before .before .before .before .before .j .given .1) ∙ c .before .before .before .before .before .before .before .before .before .before .before .before .before .before .before .before .before .before .before .before .before .before .before .before .before .before .first-ready .ensures) (c .before .before .before .before .before .before .before .before .before .before .before .before .before .before .before .before .before .before .before .before .before .get-word .ensures) (c .before .before .before .before .before .before .before .before .before .before .before .before .before .before .before .before .before .before .before .before .load-key .ensures) (c .before .before .before .before .before .before .before .before .before .before .before .before .before .before .before .before .before .before .take-entry .ensures) (c .before .before .before .before .before .before .before .before .before .before .before .before .next-of .ensures) _ _ _ _ (c .before .before .before .before .before .before .before .before .before .before .before .if1 .taken) (search needs) (search needs) (search needs) (c .before .before .before .before .before .before .before .before .before .push-logged .ensures) (c .before .before .before .before .clock-put .ensures)
+loop-again c =
+    let at = c .before .before .before .before .before .before .before .before .before in
+    let at₂ = at .before .before .before .before .before .before .before .before .before in
+    let at₃ = at₂ .before .before .before .before .before .before in
+    going-log (at₃ .before .before .before .before .before .before .loop .inv) _ _ _ _ _ (sym (at₃ .j .given .1) ∙ at₃ .before .before .first-ready .ensures) (at₂ .before .before .before .get-word .ensures) (at₂ .before .before .load-key .ensures) (at₂ .take-entry .ensures) (at .before .before .before .next-of .ensures) _ _ _ _ (at .before .before .if1 .taken) (search needs) (search needs) (search needs) (at .push-logged .ensures) (c .before .before .before .before .clock-put .ensures)
 
 add-dropped : tie.Need-add-dropped Inv-loop μ-loop
-add-dropped c = omega (arith, turn (c .before .before .before .before .before .before .before .before .before .before .before .before .before .before .before .before .before .before .before .loop .inv) _ (sym (c .before .before .before .before .before .before .before .before .before .before .before .before .before .j .given .1) ∙ c .before .before .before .before .before .before .before .before .before .before .before .before .before .before .before .first-ready .ensures) .0, turn (c .before .before .before .before .before .before .before .before .before .before .before .before .before .before .before .before .before .before .before .loop .inv) _ (sym (c .before .before .before .before .before .before .before .before .before .before .before .before .before .j .given .1) ∙ c .before .before .before .before .before .before .before .before .before .before .before .before .before .before .before .first-ready .ensures) .1)
+add-dropped c =
+    let at = c .before .before .before .before .before .before .before .before .before .before .before .before .before in
+    let at₂ = at .before .before in
+    let at₃ = at₂ .before .before .before .before in
+    omega (arith, turn (at₃ .loop .inv) _ (sym (at .j .given .1) ∙ at₂ .first-ready .ensures) .0, turn (at₃ .loop .inv) _ (sym (at .j .given .1) ∙ at₂ .first-ready .ensures) .1)
 
 loop-less-2 : tie.Need-loop-less-2 Inv-loop μ-loop
-loop-less-2 c = omega (arith, turn (c .before .before .before .before .before .before .before .before .before .before .before .before .before .before .before .before .before .before .before .loop .inv) _ (sym (c .before .before .before .before .before .before .before .before .before .before .before .before .before .j .given .1) ∙ c .before .before .before .before .before .before .before .before .before .before .before .before .before .before .before .first-ready .ensures) .0, turn (c .before .before .before .before .before .before .before .before .before .before .before .before .before .before .before .before .before .before .before .loop .inv) _ (sym (c .before .before .before .before .before .before .before .before .before .before .before .before .before .j .given .1) ∙ c .before .before .before .before .before .before .before .before .before .before .before .before .before .before .before .first-ready .ensures) .1)
+loop-less-2 c =
+    let at = c .before .before .before .before .before .before .before .before .before .before .before .before .before in
+    let at₂ = at .before .before in
+    let at₃ = at₂ .before .before .before .before in
+    omega (arith, turn (at₃ .loop .inv) _ (sym (at .j .given .1) ∙ at₂ .first-ready .ensures) .0, turn (at₃ .loop .inv) _ (sym (at .j .given .1) ∙ at₂ .first-ready .ensures) .1)
 
 loop-again-2 : tie.Need-loop-again-2 Inv-loop μ-loop
-loop-again-2 c = going-drop (c .before .before .before .before .before .before .before .before .before .before .before .before .before .before .before .before .before .before .before .loop .inv) _ _ _ _ _ (sym (c .before .before .before .before .before .before .before .before .before .before .before .before .before .j .given .1) ∙ c .before .before .before .before .before .before .before .before .before .before .before .before .before .before .before .first-ready .ensures) (c .before .before .before .before .before .before .before .before .before .before .get-word .ensures) (c .before .before .before .before .before .before .before .before .before .load-key .ensures) (c .before .before .before .before .before .before .before .take-entry .ensures) (c .before .next-of .ensures) (c .if1 .left) (search needs)
+loop-again-2 c =
+    let at = c .before .before .before .before .before .before .before in
+    let at₂ = at .before .before .before .before .before .before in
+    going-drop (at₂ .before .before .before .before .before .before .loop .inv) _ _ _ _ _ (sym (at₂ .j .given .1) ∙ at₂ .before .before .first-ready .ensures) (at .before .before .before .get-word .ensures) (at .before .before .load-key .ensures) (at .take-entry .ensures) (c .before .next-of .ensures) (c .if1 .left) (search needs)
 
 pub drain-by-spec : {M : Type 1} → statement M
 drain-by-spec =

@@ -3,8 +3,8 @@ use Prim.Native.Nat.{_*_, _-_}
 use mathlib.Core.Path.{_≡_}
 use native.Mathlib.Omega.{arith}
 use lib.ListN.{length}
-use Rattle.row.proofs.Ops.{in-area}
-use Rattle.working.proofs.Batches.{Lasting, lasting-start, lasting-end, lasting-past, lasting-kept}
+use Rattle.row.proofs.Operations.{in-area}
+use Rattle.working.proofs.AdmissionLoop.{Lasting, lasting-start, lasting-end, lasting-past, lasting-kept}
 use Rattle.working.proofs.raw.unexpired.Statement.{statement}
 use Rattle.working.proofs.raw.unexpired.Tie as tie
 
@@ -51,7 +51,9 @@ loop-less-2 : tie.Need-loop-less-2 Inv-loop μ-loop
 loop-less-2 c = search needs
 
 loop-again-2 : tie.Need-loop-again-2 Inv-loop μ-loop
-loop-again-2 c = (search needs, lasting-kept (c .before .before .before .before .before .before .before .loop .inv .1) (search needs) _ (c .before .before .before .before .before .get-word .ensures) _ (c .before .before .put-ref .ensures) (c .before .before .before .before .if1 .left) (omega arith) (c .before .before .before .before .before .before .before .before .before .before .pre .1 (c .before .before .before .before .before .before .before .loop .i) (omega arith)))
+loop-again-2 c =
+    let at = c .before .before .before .before .before .before .before in
+    (search needs, lasting-kept (at .loop .inv .1) (search needs) _ (c .before .before .before .before .before .get-word .ensures) _ (c .before .before .put-ref .ensures) (c .before .before .before .before .if1 .left) (omega arith) (at .before .before .before .pre .1 (at .loop .i) (omega arith)))
 
 same-length : tie.Need-same-length Inv-loop μ-loop
 same-length c = search needs

@@ -1,6 +1,6 @@
 use Prim.Native.Nat.{_-_}
 use mathlib.Core.Path.{refl}
-use Rattle.working.proofs.Cells.{pushed}
+use Rattle.working.proofs.ScratchColumns.{pushed}
 use borrow.Author.Needs.{needs}
 use Rattle.working.proofs.scratch.push_logged.Statement.{statement}
 use Rattle.working.proofs.scratch.push_logged.Tie as tie

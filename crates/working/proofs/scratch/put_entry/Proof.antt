@@ -3,7 +3,7 @@ use Prim.Native.Nat.{_-_, _≤_}
 use mathlib.Core.Path.{_≡_}
 use native.Mathlib.Omega.{arith}
 use lib.ListN.{length}
-use Rattle.working.proofs.Cells.{Gap, gap-start, gap-turn, put-in}
+use Rattle.working.proofs.ScratchColumns.{Gap, gap-start, gap-turn, put-in}
 use Rattle.working.proofs.scratch.put_entry.Statement.{statement}
 use Rattle.working.proofs.scratch.put_entry.Tie as tie
 

@@ -1,5 +1,5 @@
 use Prim.Native.Nat.{_-_}
-use Rattle.working.proofs.Word.{written}
+use Rattle.working.proofs.ScratchWord.{written}
 use borrow.Author.Needs.{needs}
 use Rattle.working.proofs.scratch.put_ref.Statement.{statement}
 use Rattle.working.proofs.scratch.put_ref.Tie as tie

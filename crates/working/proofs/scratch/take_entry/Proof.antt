@@ -3,7 +3,7 @@ use Prim.Native.Nat.{_-_, _≤_}
 use mathlib.Core.Path.{_≡_, refl}
 use native.Mathlib.Omega.{arith}
 use lib.ListN.{length}
-use Rattle.working.proofs.Cells.{Moving, Same8, move-start, move-turn, same-turn, taken-out}
+use Rattle.working.proofs.ScratchColumns.{Moving, Same8, move-start, move-turn, same-turn, taken-out}
 use Rattle.working.proofs.scratch.take_entry.Statement.{statement}
 use Rattle.working.proofs.scratch.take_entry.Tie as tie
 
@@ -38,7 +38,10 @@ loop-less : tie.Need-loop-less Inv-loop μ-loop
 loop-less c = search needs
 
 loop-again : tie.Need-loop-again Inv-loop μ-loop
-loop-again c = (search needs, search needs, search needs, move-turn (c .before .before .before .before .before .before .before .before .before .args .scratch .now) (c .before .before .before .before .before .before .before .loop .scratch) _ (c .before .before .before .before .before .before .before .before .before .args .n) (c .before .before .before .before .before .before .before .before .before .args .j) (c .before .before .before .before .before .before .before .loop .i) _ (omega arith) (c .before .before .before .before .get-word .ensures) (c .before .before .put-ref .ensures) (c .before .before .before .before .before .before .before .loop .inv .3), same-turn (c .before .before .before .before .before .before .before .before .before .args .scratch .now) (c .before .before .before .before .before .before .before .loop .scratch) _ (c .before .before .before .before .before .before .before .loop .i) _ (c .before .before .put-ref .ensures) (c .before .before .before .before .before .before .before .loop .inv .4))
+loop-again c =
+    let at = c .before .before .before .before .before .before .before in
+    let args = at .before .before .args in
+    (search needs, search needs, search needs, move-turn (args .scratch .now) (at .loop .scratch) _ (args .n) (args .j) (at .loop .i) _ (omega arith) (c .before .before .before .before .get-word .ensures) (c .before .before .put-ref .ensures) (at .loop .inv .3), same-turn (args .scratch .now) (at .loop .scratch) _ (at .loop .i) _ (c .before .before .put-ref .ensures) (at .loop .inv .4))
 
 same-length : tie.Need-same-length Inv-loop μ-loop
 same-length c = search needs

@@ -1,7 +1,7 @@
 use Prim.Native.Nat.{_-_}
 use mathlib.Core.Path.{sym, _∙_}
 use native.Mathlib.Omega.{arith}
-use Rattle.working.proofs.TwoRows.{ascends, here-below, get-here, get-gap}
+use Rattle.working.proofs.DrainClock.{ascends, here-below, get-here, get-gap}
 use borrow.Author.Needs.{needs}
 use Rattle.working.proofs.ticking.clock_get.Statement.{statement}
 use Rattle.working.proofs.ticking.clock_get.Tie as tie

@@ -1,6 +1,6 @@
 use Prim.Native.Nat.{_-_}
 use mathlib.Core.Path.{sym, _∙_}
-use Rattle.working.proofs.TwoRows.{ascends, put-here, put-gap}
+use Rattle.working.proofs.DrainClock.{ascends, put-here, put-gap}
 use borrow.Author.Needs.{needs}
 use Rattle.working.proofs.ticking.clock_put.Statement.{statement}
 use Rattle.working.proofs.ticking.clock_put.Tie as tie
@@ -42,7 +42,10 @@ same-length-4 : tie.Need-same-length-4
 same-length-4 c = search needs
 
 returns-2 : tie.Need-returns-2
-returns-2 c = put-gap _ _ _ _ _ (c .before .before .before .before .before .before .before .before .before .before .before .before .before .before .before .pre .0) (c .before .before .before .before .before .before .before .before .before .before .before .find .ensures) _ _ _ (sym (c .before .before .before .before .before .before .before .before .before .stands .ensures) ∙ c .before .before .before .before .before .before .before .before .if1 .left) (c .before .before .before .before .before .before .before .before .before .before .before .before .before .before .before .pre .1) (c .before .before .before .before .before .before .before .before .before .before .before .before .before .before .before .pre .2) (search needs) (search needs) (c .before .before .before .before .before .before .put-in .ensures) (c .before .before .put-in2 .ensures)
+returns-2 c =
+    let at = c .before .before .before .before .before .before in
+    let at₂ = at .before .before .before .before .before .before .before .before .before in
+    put-gap _ _ _ _ _ (at₂ .pre .0) (at .before .before .before .before .before .find .ensures) _ _ _ (sym (at .before .before .before .stands .ensures) ∙ at .before .before .if1 .left) (at₂ .pre .1) (at₂ .pre .2) (search needs) (search needs) (at .put-in .ensures) (c .before .before .put-in2 .ensures)
 
 pub clock-put-spec : {M : Type 1} → statement M
 clock-put-spec =

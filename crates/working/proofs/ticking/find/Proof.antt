@@ -2,7 +2,7 @@ use borrow.Author.Needs.{needs}
 use Prim.Native.Nat.{ℕ, _-_, _≤_, _<_}
 use native.Mathlib.Omega.{arith}
 use lib.ListN.{getD}
-use Rattle.working.proofs.TwoRows.{parts-low, parts-high, parts-met}
+use Rattle.working.proofs.DrainClock.{parts-low, parts-high, parts-met}
 use Rattle.working.proofs.ticking.find.Statement.{statement}
 use Rattle.working.proofs.ticking.find.Tie as tie
 

@@ -3,11 +3,11 @@ use Prim.Native.Nat.{_-_, _≤_}
 use mathlib.Core.Path.{_≡_}
 use native.Mathlib.Omega.{arith}
 use lib.ListN.{length}
-use Rattle.words.specs.Areas.{movedUp}
 use Rattle.words.proofs.Moves.{up-none}
-use Rattle.clock.proofs.Placing.{in-turn, in-last}
+use Rattle.clock.proofs.AuthorSearch.{in-turn, in-last}
 use Rattle.working.proofs.ticking.put_in.Statement.{statement}
 use Rattle.working.proofs.ticking.put_in.Tie as tie
+use Rattle.words.specs.inside.Moves.{movedUp}
 
 abbrev Inv-loop : tie.InvT-loop
 Inv-loop s₀ n i v j₀ s j = (i ≤ j) × (j ≤ n) × (length s ≡ length s₀) × (s ≡ movedUp j n 1 s₀)

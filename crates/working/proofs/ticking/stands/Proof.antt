@@ -1,5 +1,5 @@
 use Prim.Native.Nat.{_-_}
-use Rattle.working.proofs.TwoRows.{stands-past, stands-here}
+use Rattle.working.proofs.DrainClock.{stands-past, stands-here}
 use borrow.Author.Needs.{needs}
 use Rattle.working.proofs.ticking.stands.Statement.{statement}
 use Rattle.working.proofs.ticking.stands.Tie as tie

@@ -5,7 +5,7 @@ use native.Mathlib.Omega.{arith}
 use lib.ListN.{length, getD, length-set}
 use Rattle.words.specs.Be.{get64}
 use Rattle.words.proofs.Puts.{fill-turn}
-use Rattle.working.proofs.TwoRows.{head-few, start-is, start-clocked}
+use Rattle.working.proofs.DrainClock.{head-few, start-is, start-clocked}
 use Rattle.working.proofs.ticking.start_clock.Statement.{statement}
 use Rattle.working.proofs.ticking.start_clock.Tie as tie
 
@@ -55,7 +55,9 @@ loop-less : tie.Need-loop-less Inv-loop μ-loop
 loop-less c = omega arith
 
 loop-again : tie.Need-loop-again Inv-loop μ-loop
-loop-again c = (omega arith, omega arith, simp length-set (c .before .before .before .loop .inv .2), simp length-set (c .before .before .before .loop .inv .3), fill-turn (λ (k : ℕ). get64 (c .before .before .before .before .before .before .before .before .args .head .now) (56 + 16 * k)) (c .before .before .before .loop .authors) _ _ (omega arith) (c .before .get-word2 .ensures ∙ ap (get64 _) (omega arith)) (c .before .before .before .loop .inv .4), fill-turn (λ (k : ℕ). get64 (c .before .before .before .before .before .before .before .before .args .head .now) (64 + 16 * k)) (c .before .before .before .loop .numbers) _ _ (omega arith) (c .get-word3 .ensures ∙ ap (get64 _) (omega arith)) (c .before .before .before .loop .inv .5))
+loop-again c =
+    let args = c .before .before .before .before .before .before .before .before .args in
+    (omega arith, omega arith, simp length-set (c .before .before .before .loop .inv .2), simp length-set (c .before .before .before .loop .inv .3), fill-turn (λ (k : ℕ). get64 (args .head .now) (56 + 16 * k)) (c .before .before .before .loop .authors) _ _ (omega arith) (c .before .get-word2 .ensures ∙ ap (get64 _) (omega arith)) (c .before .before .before .loop .inv .4), fill-turn (λ (k : ℕ). get64 (args .head .now) (64 + 16 * k)) (c .before .before .before .loop .numbers) _ _ (omega arith) (c .get-word3 .ensures ∙ ap (get64 _) (omega arith)) (c .before .before .before .loop .inv .5))
 
 same-length : tie.Need-same-length Inv-loop μ-loop
 same-length c = omega arith
@@ -64,7 +66,9 @@ same-length-2 : tie.Need-same-length-2 Inv-loop μ-loop
 same-length-2 c = omega arith
 
 returns : tie.Need-returns Inv-loop μ-loop
-returns c = (start-is _ _ _ _ (c .before .loop .i) (c .before .before .before .before .before .before .pre .1) (c .before .before .get-word .ensures) (omega arith) (omega arith) (omega arith) (c .before .loop .inv .4) (c .before .loop .inv .5), (start-clocked _ _ _ _ (c .before .loop .i) (c .before .before .before .before .before .before .pre .1) (c .before .before .get-word .ensures) (omega arith) (omega arith) (omega arith) (c .before .loop .inv .4) (c .before .loop .inv .5), omega arith))
+returns c =
+    let at = c .before .before .before .before .before .before in
+    (start-is _ _ _ _ (c .before .loop .i) (at .pre .1) (c .before .before .get-word .ensures) (omega arith) (omega arith) (omega arith) (c .before .loop .inv .4) (c .before .loop .inv .5), (start-clocked _ _ _ _ (c .before .loop .i) (at .pre .1) (c .before .before .get-word .ensures) (omega arith) (omega arith) (omega arith) (c .before .loop .inv .4) (c .before .loop .inv .5), omega arith))
 
 pub start-clock-spec : {M : Type 1} → statement M
 start-clock-spec =

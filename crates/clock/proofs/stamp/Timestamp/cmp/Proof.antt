@@ -1,5 +1,5 @@
 use mathlib.Core.Path.{sym, _∙_}
-use Rattle.clock.proofs.Lex.{order-less, order-greater, order-equal}
+use Rattle.clock.proofs.LexicographicOrder.{order-less, order-greater, order-equal}
 use borrow.Author.Needs.{needs}
 use Rattle.clock.proofs.stamp.Timestamp.cmp.Statement.{statement}
 use Rattle.clock.proofs.stamp.Timestamp.cmp.Tie as tie

@@ -1,7 +1,7 @@
 use mathlib.Core.Path.{sym}
 use native.Mathlib.Omega.{arith}
 use Rattle.clock.specs.Order.{stampLess, stampKey}
-use Rattle.clock.proofs.Lex.{less-first, less-second, less-third, not-first, not-second, not-third}
+use Rattle.clock.proofs.LexicographicOrder.{less-first, less-second, less-third, not-first, not-second, not-third}
 use Rattle.clock.proofs.stamp.Timestamp.less.Statement.{statement}
 use Rattle.clock.proofs.stamp.Timestamp.less.Tie as tie
 

@@ -1,6 +1,6 @@
 use mathlib.Core.Path.{sym, _∙_}
 use borrow.Author.Tests.{not-true, not-false}
-use Rattle.clock.proofs.Causal.{compare-refused, compare-told}
+use Rattle.clock.proofs.CausalOrders.{compare-refused, compare-told}
 use borrow.Author.Needs.{needs}
 use Rattle.clock.proofs.vector.VectorClock.compare.Statement.{statement}
 use Rattle.clock.proofs.vector.VectorClock.compare.Tie as tie
@@ -27,7 +27,10 @@ order-of-requires : tie.Need-order-of-requires
 order-of-requires c κs = search needs
 
 returns-3 : tie.Need-returns-3
-returns-3 c = compare-told (c .before .before .before .before .before .before .before .args .self) (c .before .before .before .before .before .before .before .args .other) (sym (c .before .before .before .before .before .before .is-sound .ensures) ∙ not-false _ (c .before .before .before .before .before .if1 .left)) (sym (c .before .before .before .before .is-sound2 .ensures) ∙ not-false _ (c .before .before .before .if2 .left)) _ (c .order-of .ensures ∙ rw (c .before .before .covers .ensures, c .before .covers2 .ensures))
+returns-3 c =
+    let at = c .before .before .before .before .before .before in
+    let args = at .before .args in
+    compare-told (args .self) (args .other) (sym (at .is-sound .ensures) ∙ not-false _ (c .before .before .before .before .before .if1 .left)) (sym (c .before .before .before .before .is-sound2 .ensures) ∙ not-false _ (c .before .before .before .if2 .left)) _ (c .order-of .ensures ∙ rw (c .before .before .covers .ensures, c .before .covers2 .ensures))
 
 pub compare-spec : {M : Type 1} → statement M
 compare-spec =

@@ -1,6 +1,6 @@
 use mathlib.Core.Path.{sym, _∙_}
 use borrow.Author.Tests.{not-true, not-false}
-use Rattle.clock.proofs.Causal.{merge-refused, merge-told}
+use Rattle.clock.proofs.CausalOrders.{merge-refused, merge-told}
 use borrow.Author.Needs.{needs}
 use Rattle.clock.proofs.vector.VectorClock.merge.Statement.{statement}
 use Rattle.clock.proofs.vector.VectorClock.merge.Tie as tie

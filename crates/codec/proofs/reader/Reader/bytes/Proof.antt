@@ -1,6 +1,6 @@
 -- `Reader::bytes` meets its contract: a walk of its MIR, by hand. The borrow is opened, the reader is taken apart, `get_bytes` reads the part's place, `part_of` makes the part, which goes into the result beside
 -- the place, `past_part` gives the new position, and the borrow is closed at the reader with it.
--- Assumes nothing.
+--
 use mathlib.Core.Path.{_≡_, refl, ap, _∙_}
 use Prim.Native.Nat.{ℕ, _<_, _^_}
 use mathlib.Core.List.{[], _∷_, List}
@@ -44,13 +44,13 @@ use denote.Triple.Walked.{says, Stays, stay-ref, stay-none, walkOf, goes-ref, go
 use denote.Exit.{yes}
 use Rattle.error.specs.Answer.{Got}
 use Rattle.codec.specs.Reading.{Part, getBytes, gotPart}
-use Rattle.codec.specs.Readers.{past, partIn, partPlace, readBy, moved, ReadsBytes}
+use Rattle.codec.specs.Readers.{pastRead, partIn, partPlace, readBy, moved, ReadsBytes}
 use Rattle.codec.specs.declared.PartRead.{PartRead}
 use Rattle.codec.specs.declared.reader.Reader.{Reader}
 use Rattle.codec.specs.declared.reader.BytesRead.{BytesRead}
-use Rattle.codec.proofs.Apart.{α, B, at, slice, pos-fits, typed, apart, again}
-use Rattle.codec.proofs.Taken.{within-bytes}
-use Rattle.codec.proofs.WalkNumber.{behind}
+use Rattle.codec.proofs.ReaderParts.{α, B, at, slice, pos-fits, typed, apart, again}
+use Rattle.codec.proofs.ReadParts.{within-bytes}
+use Rattle.codec.proofs.WalkReaderVarint.{behind}
 use Rattle.codec.proofs.PartRead as P
 use Rattle.codec.proofs.PartRead.Laws as P′
 use Rattle.codec.proofs.reader.Reader as T
@@ -142,8 +142,8 @@ module _ {M : Type 1} (𝓤 : URA M) (H : Heap 𝓤) (A : Atoms 𝓤) (W : Given
     goes-past : (p : PartRead) (u : Val) → ent 𝓤 (⋆ 𝓤 H A (‵ ftrue ∷ ‵ (owns (P.the-row ∷ usize ∷ []) (p, (d .pos, tt)) (u ∷ [], (vint w64 (d .pos) ∷ [], tt))) ∷ [])) (PastPart 𝓤 H A at-mem run .pre (to-past p u))
     goes-past p u = qed W (‵ ftrue ∷ ‵ (owns (P.the-row ∷ usize ∷ []) (p, (d .pos, tt)) (u ∷ [], (vint w64 (d .pos) ∷ [], tt))) ∷ []) ∵ join ! $ frame ! $ done !
 
-    said-past : (p : PartRead) (n : ℕ) → ent 𝓤 (ensured 𝓤 H A past-part.ended (past-part.clauses 𝓤 H A at-mem run) tt (p, (d .pos, tt)) tt n) (fact 𝓤 (n ≡ past (d .pos) (gotPart p)))
-    said-past p n = exE 𝓤 _ (λ ws. snd∗ 𝓤 (sem 𝓤 H A (lasts past-part.ended tt (p, (d .pos, tt)) ws)) (fact 𝓤 (n ≡ past (d .pos) (gotPart p))))
+    said-past : (p : PartRead) (n : ℕ) → ent 𝓤 (ensured 𝓤 H A past-part.ended (past-part.clauses 𝓤 H A at-mem run) tt (p, (d .pos, tt)) tt n) (fact 𝓤 (n ≡ pastRead (d .pos) (gotPart p)))
+    said-past p n = exE 𝓤 _ (λ ws. snd∗ 𝓤 (sem 𝓤 H A (lasts past-part.ended tt (p, (d .pos, tt)) ws)) (fact 𝓤 (n ≡ pastRead (d .pos) (gotPart p))))
 
     -- the result: the part and its place
     abbrev made : RefT (List ℕ) → PartRead → BytesRead
@@ -204,7 +204,7 @@ module _ {M : Type 1} (𝓤 : URA M) (H : Heap 𝓤) (A : Atoms 𝓤) (W : Given
         use2 W (raw (PastPart 𝓤 H A at-mem run .pre (to-past p u))) (goes-past p u) $
         calls-at ! fm (PastPart 𝓤 H A at-mem run) known-past (to-past p u) (and-then ! (load ! (from ! (stop !)) (look ! 17 refl)) (and-then ! (load ! (from ! (stop !)) (look ! 9 refl)) (no-more !))) (λ w.
         use1 W (later (some (λ (n : ℕ). (‵ ftrue ⊛ ‵ (usize .own n (w ∷ []))) ⊛ raw (ensured 𝓤 H A past-part.ended (past-part.clauses 𝓤 H A at-mem run) tt (p, (d .pos, tt)) tt n)))) (id⊢ 𝓤 _) $ await ! tt $ pick ! (λ n.
-        split ! $ move ! (1 ∷ []) $ use1 W (raw (fact 𝓤 (n ≡ past (d .pos) (gotPart p)))) (said-past p n) $ heard ! (n ≡ past (d .pos) (gotPart p)) (λ e′. split ! $ drop ! $ peeks ! usize (Is usize) (shows 𝓤 H A usize) n (w ∷ []) (λ is″.
+        split ! $ move ! (1 ∷ []) $ use1 W (raw (fact 𝓤 (n ≡ pastRead (d .pos) (gotPart p)))) (said-past p n) $ heard ! (n ≡ pastRead (d .pos) (gotPart p)) (λ e′. split ! $ drop ! $ peeks ! usize (Is usize) (shows 𝓤 H A usize) n (w ∷ []) (λ is″.
         -- [what the position owns; what the part owns; 'a's token; what the reader owns; its cell; the open borrow; obs; auth; max's; _7; …; _6; …; _5; …; _4; …; _3; …; _2; …; _1; …; room for _0; …]
         land ! (from ! (stop !)) (store ! 11 refl (uint-lawful 𝓤 H A W w64 .typed n _ is″ .0)) $ rewrite ! 11 (λ (z : Val). ‵ (fat fullShare (tyInt w64) l₆ 0 z)) (ap only (is″ .0)) refl $
         assigns ! (of-opd ! (load ! (from ! (stop !)) (look ! 11 refl))) (from ! (hop ! (look ! 21 refl) (fld ! refl (stop !)))) (store-in ! 4 (sub ! 1 refl (whole !)) (tt, record { fits = is″ .1 })) $
@@ -215,7 +215,7 @@ module _ {M : Type 1} (𝓤 : URA M) (H : Heap 𝓤) (A : Atoms 𝓤) (W : Given
         move ! (0 ∷ 1 ∷ 4 ∷ 5 ∷ 6 ∷ []) $ closes ! tt (B κ′) (at d n) (T′.lowered (at d n) ∷ []) b o $
         returns ! (look ! 20 refl) $ forget ! 6 refl $ forget ! 8 refl $ forget ! 10 refl $ forget ! 12 refl $ forget ! 14 refl $ forget ! 16 refl $ forget ! 18 refl $ forget ! 20 refl $
         move ! (20 ∷ 21 ∷ []) $ free1 ! $ move ! (18 ∷ 19 ∷ []) $ free1 ! $ move ! (16 ∷ 17 ∷ []) $ free1 ! $ move ! (14 ∷ 15 ∷ []) $ free1 ! $ move ! (12 ∷ 13 ∷ []) $ free1 ! $ move ! (10 ∷ 11 ∷ []) $ free1 ! $ move ! (8 ∷ 9 ∷ []) $ free1 ! $ move ! (6 ∷ 7 ∷ []) $ free1 ! $ free0 ! $
-        keep ! (0 ∷ 1 ∷ 2 ∷ 3 ∷ 4 ∷ []) $ by ! (exits s p v u n is′ (record { ended = e; bytes = cut .0 ∙ ap (partIn (now (d .buf))) e; place = cut .1 ∙ ap (partPlace (ptr (d .buf))) e; reader = λ i. at d ((e′ ∙ ap (past (d .pos)) e) i) }))))))))))))))))))))))))
+        keep ! (0 ∷ 1 ∷ 2 ∷ 3 ∷ 4 ∷ []) $ by ! (exits s p v u n is′ (record { ended = e; bytes = cut .0 ∙ ap (partIn (now (d .buf))) e; place = cut .1 ∙ ap (partPlace (ptr (d .buf))) e; reader = λ i. at d ((e′ ∙ ap (pastRead (d .pos)) e) i) }))))))))))))))))))))))))
 
   bytes-meets : (𝓣 : Tables 𝓤 H) → Triple 𝓤 (𝓣 .C #get-bytes) (GetBytes 𝓤 H A at-mem run) → Triple 𝓤 (𝓣 .C #part-of) (PartOf 𝓤 H A at-mem run) → Triple 𝓤 (𝓣 .C #past-part) (PastPart 𝓤 H A at-mem run)
       → Meets 𝓤 H A bytes.signature (WpFn 𝓤 H (𝓣 .C) (𝓣 .Λ) code.function) (bytes.spec 𝓤 H A at-mem run)

@@ -1,6 +1,6 @@
 -- `Reader::count` meets its contract: a walk of its MIR, by hand, as `WalkNumber.antt`'s with one number more. The borrow is opened, the reader is taken apart, `get_count` is called, then `past_number`, and the
 -- borrow is closed at the reader with the new position.
--- Assumes nothing.
+--
 use mathlib.Core.Path.{_≡_, refl, ap, _∙_}
 use Prim.Native.Nat.{ℕ, _<_, _^_}
 use mathlib.Core.List.{[], _∷_, List}
@@ -42,11 +42,11 @@ use denote.Triple.Table.{entered, cited}
 use denote.Triple.Walked.{says, Stays, stay-ref, stay-none, walkOf, goes-ref, goes-none, ends-at, walked, walk-meets}
 use denote.Exit.{yes}
 use Rattle.codec.specs.Reading.{getCount, gotNumber}
-use Rattle.codec.specs.Readers.{past, readBy}
+use Rattle.codec.specs.Readers.{pastRead, readBy}
 use Rattle.codec.specs.declared.NumberRead.{NumberRead}
 use Rattle.codec.specs.declared.reader.Reader.{Reader}
-use Rattle.codec.proofs.Apart.{α, B, at, slice, pos-fits, typed, apart, again}
-use Rattle.codec.proofs.WalkNumber.{behind, Said}
+use Rattle.codec.proofs.ReaderParts.{α, B, at, slice, pos-fits, typed, apart, again}
+use Rattle.codec.proofs.WalkReaderVarint.{behind, Said}
 use Rattle.codec.proofs.NumberRead as N
 use Rattle.codec.proofs.NumberRead.Laws as N′
 use Rattle.codec.proofs.reader.Reader as T
@@ -112,8 +112,8 @@ module _ {M : Type 1} (𝓤 : URA M) (H : Heap 𝓤) (A : Atoms 𝓤) (W : Given
     goes-past : (r : NumberRead) (u : Val) → ent 𝓤 (⋆ 𝓤 H A (‵ ftrue ∷ ‵ (owns (N.the-row ∷ usize ∷ []) (r, (d .pos, tt)) (u ∷ [], (vint w64 (d .pos) ∷ [], tt))) ∷ [])) (PastNumber 𝓤 H A at-mem run .pre (to-past r u))
     goes-past r u = qed W (‵ ftrue ∷ ‵ (owns (N.the-row ∷ usize ∷ []) (r, (d .pos, tt)) (u ∷ [], (vint w64 (d .pos) ∷ [], tt))) ∷ []) ∵ join ! $ frame ! $ done !
 
-    said-past : (r : NumberRead) (n : ℕ) → ent 𝓤 (ensured 𝓤 H A past-number.ended (past-number.clauses 𝓤 H A at-mem run) tt (r, (d .pos, tt)) tt n) (fact 𝓤 (n ≡ past (d .pos) (gotNumber r)))
-    said-past r n = exE 𝓤 _ (λ ws. snd∗ 𝓤 (sem 𝓤 H A (lasts past-number.ended tt (r, (d .pos, tt)) ws)) (fact 𝓤 (n ≡ past (d .pos) (gotNumber r))))
+    said-past : (r : NumberRead) (n : ℕ) → ent 𝓤 (ensured 𝓤 H A past-number.ended (past-number.clauses 𝓤 H A at-mem run) tt (r, (d .pos, tt)) tt n) (fact 𝓤 (n ≡ pastRead (d .pos) (gotNumber r)))
+    said-past r n = exE 𝓤 _ (λ ws. snd∗ 𝓤 (sem 𝓤 H A (lasts past-number.ended tt (r, (d .pos, tt)) ws)) (fact 𝓤 (n ≡ pastRead (d .pos) (gotNumber r))))
 
     exits : (r : NumberRead) (u : Val) (n : ℕ) → Is N.the-row r (u ∷ []) → Said (λ s at. getCount s at m) d r (at d n) → ent 𝓤 (⋆ 𝓤 H A (‵ (fobs γ (B κ′ .coded .code (at d n))) ∷ ‵ (fbor κ (Body (mem (B κ′)) b o γ)) ∷ ‵ (flft κ q) ∷ (‵ (flft κ′ q′) ⊛ ‵ ftrue) ∷ [])) (Post u)
     exits r u n is e =
@@ -147,7 +147,7 @@ module _ {M : Type 1} (𝓤 : URA M) (H : Heap 𝓤) (A : Atoms 𝓤) (W : Given
         use2 W (raw (PastNumber 𝓤 H A at-mem run .pre (to-past r u))) (goes-past r u) $
         calls-at ! fm (PastNumber 𝓤 H A at-mem run) known-past (to-past r u) (and-then ! (load ! (from ! (stop !)) (look ! 14 refl)) (and-then ! (load ! (from ! (stop !)) (look ! 8 refl)) (no-more !))) (λ w.
         use1 W (later (some (λ (n : ℕ). (‵ ftrue ⊛ ‵ (usize .own n (w ∷ []))) ⊛ raw (ensured 𝓤 H A past-number.ended (past-number.clauses 𝓤 H A at-mem run) tt (r, (d .pos, tt)) tt n)))) (id⊢ 𝓤 _) $ await ! tt $ pick ! (λ n.
-        split ! $ move ! (1 ∷ []) $ use1 W (raw (fact 𝓤 (n ≡ past (d .pos) (gotNumber r)))) (said-past r n) $ heard ! (n ≡ past (d .pos) (gotNumber r)) (λ e′. split ! $ drop ! $ peeks ! usize (Is usize) (shows 𝓤 H A usize) n (w ∷ []) (λ is″.
+        split ! $ move ! (1 ∷ []) $ use1 W (raw (fact 𝓤 (n ≡ pastRead (d .pos) (gotNumber r)))) (said-past r n) $ heard ! (n ≡ pastRead (d .pos) (gotNumber r)) (λ e′. split ! $ drop ! $ peeks ! usize (Is usize) (shows 𝓤 H A usize) n (w ∷ []) (λ is″.
         -- [what the position owns; 'a's token; what the reader owns; its cell; the open borrow; obs; auth; max's; _6; …; _5; …; _4; …; _3; …; _2; …; _1; …; room for _0; …]
         land ! (from ! (stop !)) (store ! 10 refl (uint-lawful 𝓤 H A W w64 .typed n _ is″ .0)) $ rewrite ! 10 (λ (v : Val). ‵ (fat fullShare (tyInt w64) l₅ 0 v)) (ap only (is″ .0)) refl $
         assigns ! (of-opd ! (load ! (from ! (stop !)) (look ! 10 refl))) (from ! (hop ! (look ! 18 refl) (fld ! refl (stop !)))) (store-in ! 3 (sub ! 1 refl (whole !)) (tt, record { fits = is″ .1 })) $
@@ -158,7 +158,7 @@ module _ {M : Type 1} (𝓤 : URA M) (H : Heap 𝓤) (A : Atoms 𝓤) (W : Given
         move ! (0 ∷ 1 ∷ 3 ∷ 4 ∷ 5 ∷ []) $ closes ! tt (B κ′) (at d n) (T′.lowered (at d n) ∷ []) b o $
         returns ! (look ! 17 refl) $ forget ! 5 refl $ forget ! 7 refl $ forget ! 9 refl $ forget ! 11 refl $ forget ! 13 refl $ forget ! 15 refl $ forget ! 17 refl $
         move ! (17 ∷ 18 ∷ []) $ free1 ! $ move ! (15 ∷ 16 ∷ []) $ free1 ! $ move ! (13 ∷ 14 ∷ []) $ free1 ! $ move ! (11 ∷ 12 ∷ []) $ free1 ! $ move ! (9 ∷ 10 ∷ []) $ free1 ! $ move ! (7 ∷ 8 ∷ []) $ free1 ! $ move ! (5 ∷ 6 ∷ []) $ free1 ! $ free0 ! $
-        keep ! (0 ∷ 1 ∷ 2 ∷ 3 ∷ []) $ by ! (exits r u n is′ (e, (λ i. at d ((e′ ∙ ap (past (d .pos)) e) i)))))))))))))))))))))
+        keep ! (0 ∷ 1 ∷ 2 ∷ 3 ∷ []) $ by ! (exits r u n is′ (e, (λ i. at d ((e′ ∙ ap (pastRead (d .pos)) e) i)))))))))))))))))))))
 
   count-meets : (𝓣 : Tables 𝓤 H) → Triple 𝓤 (𝓣 .C #get-count) (GetCount 𝓤 H A at-mem run) → Triple 𝓤 (𝓣 .C #past-number) (PastNumber 𝓤 H A at-mem run)
       → Meets 𝓤 H A count.signature (WpFn 𝓤 H (𝓣 .C) (𝓣 .Λ) code.function) (count.spec 𝓤 H A at-mem run)

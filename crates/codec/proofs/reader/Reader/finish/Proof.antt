@@ -1,5 +1,5 @@
 -- `Reader::finish` meets its contract: the walk `sees`, over `finish`.
--- Assumes nothing.
+--
 use mathlib.Core.Path.{_≡_}
 use denote.Enum.Laws as EL
 use Rattle.codec.specs.Reading.{finish, finishedAt}
@@ -8,7 +8,7 @@ use Rattle.codec.proofs.Finished.Laws as F′
 use contract.Running.{givenOf, tables, tablesOf}
 use denote.Triple.Spec.{tripleOf}
 use denote.Triple.Table.{entered, cited}
-use Rattle.codec.proofs.WalkLook.{sees}
+use Rattle.codec.proofs.WalkReaderFinish.{sees}
 use Rattle.codec.proofs.finish as work
 use Rattle.codec.proofs.finish.Symbol as work-def
 use Rattle.codec.proofs.finish.Symbol.{name as #work}

@@ -1,5 +1,5 @@
 -- `Reader::new` meets its contract: a walk of its MIR, by hand. A reader is made of the slice passed and 0, in the result's local. What the slice owns is had twice: for `buf` at exit, and inside the result.
--- Assumes nothing.
+--
 use mathlib.Core.Path.{refl}
 use Prim.Native.Nat.{ℕ}
 use mathlib.Core.List.{[], _∷_, List}

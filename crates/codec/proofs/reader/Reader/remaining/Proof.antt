@@ -1,5 +1,5 @@
 -- `Reader::remaining` meets its contract: the walk `sees`, over `left`.
--- Assumes nothing.
+--
 use mathlib.Core.Path.{_≡_}
 use Prim.Native.Nat.{_-_}
 use lib.ListN.{length}
@@ -9,7 +9,7 @@ use denote.Plain.{uint-lawful}
 use contract.Running.{givenOf, tables, tablesOf}
 use denote.Triple.Spec.{tripleOf}
 use denote.Triple.Table.{entered, cited}
-use Rattle.codec.proofs.WalkLook.{sees}
+use Rattle.codec.proofs.WalkReaderFinish.{sees}
 use Rattle.codec.proofs.raw.left as work
 use Rattle.codec.proofs.raw.left.Symbol as work-def
 use Rattle.codec.proofs.raw.left.Symbol.{name as #work}

@@ -1,10 +1,10 @@
 -- `Reader::u8` meets its contract: the walk `reads`, over `get_u8`.
--- Assumes nothing.
+--
 use contract.Running.{givenOf, tables, tablesOf}
 use denote.Triple.Spec.{tripleOf}
 use denote.Triple.Table.{entered, cited}
 use Rattle.codec.specs.Reading.{getU8}
-use Rattle.codec.proofs.WalkNumber.{reads}
+use Rattle.codec.proofs.WalkReaderVarint.{reads}
 use Rattle.codec.proofs.get_u8 as work
 use Rattle.codec.proofs.get_u8.Symbol as work-def
 use Rattle.codec.proofs.get_u8.Symbol.{name as #work}

@@ -1,10 +1,10 @@
 -- `Reader::varint` meets its contract: the walk `reads`, over `get_varint`.
--- Assumes nothing.
+--
 use contract.Running.{givenOf, tables, tablesOf}
 use denote.Triple.Spec.{tripleOf}
 use denote.Triple.Table.{entered, cited}
 use Rattle.codec.specs.Reading.{getVarint}
-use Rattle.codec.proofs.WalkNumber.{reads}
+use Rattle.codec.proofs.WalkReaderVarint.{reads}
 use Rattle.codec.proofs.get_varint as work
 use Rattle.codec.proofs.get_varint.Symbol as work-def
 use Rattle.codec.proofs.get_varint.Symbol.{name as #work}

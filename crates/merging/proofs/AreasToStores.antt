@@ -1,0 +1,98 @@
+-- From the calls over bytes to the run on store values: each call gets the areas as the last one left them, and they hold the store of the run.
+use Prim.Native.Nat.{_<_, _≤_, _^_}
+use mathlib.Core.Path.{_≡_, refl}
+use mathlib.Core.Bool.{true}
+use mathlib.Core.List.{List, [], _∷_, _++_, append-assoc, append-nil, List·Memᴰ, List·Memᴰ·head, List·Memᴰ·tail}
+use lib.ListN.{length}
+use Rattle.words.specs.Be.{AllBytes}
+use Rattle.error.specs.Answer.{Answer, done, refused}
+use Rattle.clock.specs.declared.stamp.Timestamp.{Timestamp}
+use Rattle.row.specs.Rows.{Row, stampOk}
+use Rattle.log.specs.Store.{Store, rules}
+use Rattle.log.specs.Areas.{Areas, capacity, readStore, writeStore}
+use Rattle.log.proofs.store.Encoding.{capacity-write, read-write, read-rules, read-few, read-long}
+use Rattle.merging.specs.Batch.{readBatch}
+use Rattle.merging.specs.Merging.{Merged, merge}
+use Rattle.merging.specs.Calls.{BatchCall, batchAnswer, batchEnds, batchCall, withFloor, setFloorCall}
+use Rattle.merging.specs.Offers.{Call, Given, afterCall, runCalls, rowsRead, whenAccepted, offeredBy, offered, Accepted, acceptedBy, accepted}
+use Rattle.merging.specs.Trace.{Answered}
+use Rattle.merging.proofs.Traces.{merge-went, call-answered}
+use Rattle.merging.proofs.RulesKept.{merge-rules, floor-rules}
+use Rattle.merging.proofs.BatchRows.{brought}
+use Rattle.merging.proofs.StoreRuns.{accepting, Run}
+
+-- ---- the areas after one call
+
+module _ (a : Areas) (s : Store) (holds : readStore a ≡ done s) where
+  -- after an accepted batch the merged store keeps the rules and fits
+  module _ (c : BatchCall) (m : Merged) (now : c .time < 2 ^ 64) (bytes : AllBytes (c .batch)) (w : Answered a c m) where
+    merges-here : merge (capacity (a .log)) (c .limits) (c .time) s (w .rows) ≡ done m
+    merges-here =
+        let p : w .store ≡ s = cc (w .reads) in
+        rw p at (w .merges)
+
+    batch-rules : rules (m .store) ≡ true
+    batch-rules = merge-rules _ (c .limits) (c .time) s (w .rows) m merges-here (w .limits) now (brought (c .batch) bytes (w .rows) (w .brings)) (read-rules a s holds)
+
+    batch-few : length (m .store .log) ≤ capacity (a .log)
+    batch-few =
+        let within = merge-went _ (c .limits) (c .time) s (w .rows) m merges-here in
+        rw (within .store) (within .within .log)
+
+    -- so they hold it, with room for as many rows
+    pub batch-holds : readStore (writeStore a (m .store)) ≡ done (m .store)
+    batch-holds = read-write a (m .store) (read-long a s holds) batch-rules batch-few
+
+    pub batch-room : capacity (writeStore a (m .store) .log) ≡ capacity (a .log)
+    batch-room = capacity-write a (m .store) (read-long a s holds) batch-rules batch-few
+
+  -- after a floor setting they hold the store with its floor alone changed: log, clock and held rows stay
+  pub floor-holds : (t : Timestamp) → stampOk t ≡ true → readStore (setFloorCall a t .left) ≡ done (withFloor s t)
+  unfolding setFloorCall
+  floor-holds t h = rw holds (read-write a (withFloor s t) (read-long a s holds) (floor-rules s t h (read-rules a s holds)) (read-few a s holds))
+
+  pub floor-room : (t : Timestamp) → stampOk t ≡ true → capacity (setFloorCall a t .left .log) ≡ capacity (a .log)
+  unfolding setFloorCall
+  floor-room t h = rw holds (capacity-write a (withFloor s t) (read-long a s holds) (floor-rules s t h (read-rules a s holds)) (read-few a s holds))
+
+-- ---- the areas after every list of calls
+
+-- the store that areas hold, and the run that led there
+pub record Reaches (a : Areas) (o : List Row) (t : List Accepted) : Type 0 where
+  pub store : Store
+  pub holds : readStore a ≡ done store
+  pub run : Run o t store
+
+module _ (a : Areas) (o : List Row) (t : List Accepted) (r : Reaches a o t) where
+  -- a batch call, refused or accepted
+  after-batch : (c : BatchCall) → c .time < 2 ^ 64 → AllBytes (c .batch) → (x : Answer Merged) → batchAnswer a c ≡ x
+      → Reaches (batchEnds a c x .left .areas) (o ++ whenAccepted (batchEnds a c x .answer) (rowsRead (readBatch (c .batch))))
+      (t ++ whenAccepted (batchEnds a c x .answer) (accepting (c .time) (c .limits) ∷ []))
+  unfolding batchEnds
+  after-batch c now bytes (refused f) e = rw (append-nil o, append-nil t) r
+  after-batch c now bytes (done m) e =
+      let w = call-answered a c m e in
+      let h : readStore a ≡ done (r .store) = r .holds in
+      let p : w .store ≡ r .store = cc (w .reads) in
+      rw (w .brings)
+      (record {
+        store = m .store;
+        holds = batch-holds a (r .store) h c m now bytes w;
+        run = Run.batch _ (c .limits) (c .time) (w .rows) m (rw p at (w .merges)) (r .run);
+      })
+
+  after-call : (c : Call) → Given c → Reaches (afterCall a c) (o ++ offeredBy a c) (t ++ acceptedBy a c)
+  unfolding afterCall offeredBy acceptedBy batchCall
+  after-call (Call.batch c) g = after-batch c (g .0) (g .1) (batchAnswer a c) refl
+  after-call (Call.floor x) g =
+      rw (append-nil o, append-nil t)
+      (record { store = withFloor (r .store) x; holds = floor-holds a (r .store) (r .holds) x g; run = Run.floor x (r .run) })
+
+pub after-calls : (cs : List Call) → ((c : Call) → List·Memᴰ c cs → Given c) → (a : Areas) (o : List Row) (t : List Accepted) → Reaches a o t
+    → Reaches (runCalls a cs) (o ++ offered a cs) (t ++ accepted a cs)
+unfolding runCalls offered accepted
+after-calls [] given a o t r = rw (append-nil o, append-nil t) r
+after-calls (c ∷ cs) given a o t r =
+    rw (← (append-assoc o (offeredBy a c) (offered (afterCall a c) cs)), ← (append-assoc t (acceptedBy a c) (accepted (afterCall a c) cs)))
+    (after-calls cs (λ d m. given d (List·Memᴰ·tail m)) (afterCall a c) (o ++ offeredBy a c) (t ++ acceptedBy a c)
+    (after-call a o t r c (given c (List·Memᴰ·head refl))))

@@ -1,0 +1,245 @@
+-- Demand 3 on two lists of calls over bytes, so that nobody need believe that its hypotheses can be met. Four rows come in two orders; one can't be
+-- logged and stays held; one call is refused, and one sets the floor.
+use mathlib.Core.Option.{none, some}
+use Prim.Native.Nat.{ℕ, _+_, _^_}
+use mathlib.Core.Path.{_≡_, refl, _∙_, sym}
+use mathlib.Core.Logic.{inl, inr}
+use mathlib.Core.Bool.{Bool, true, false, not, _&&_, _||_}
+use mathlib.Core.List.{List, [], _∷_, _++_, List·Memᴰ, List·Memᴰ·head, List·Memᴰ·tail}
+use native.Mathlib.Omega.{arith}
+use lib.ListN.{replicate}
+use lib.Dec.{ltb, leb, eqb}
+use borrow.Author.Tests.{ltb-true, leb-true, eqb-true, eq-eqb}
+use Rattle.words.specs.Be.{bes, get64, column}
+use Rattle.words.specs.Areas.{pad}
+use Rattle.words.proofs.Words.{test}
+use Rattle.words.proofs.Conjunction.{and-left, and-right, and-both}
+use Rattle.error.specs.Answer.{Answer, done}
+use Rattle.clock.specs.Entries.{rising}
+use Rattle.clock.proofs.LexicographicOrder.{clash}
+use Rattle.clock.specs.Vector.{pairs, authorsOf, numbersOf, entries, clockOf}
+use Rattle.clock.specs.Area.{clockAt, zipped, clockBytes}
+use Rattle.row.specs.Rows.{Row, wordPairs, byteList, stampOk}
+use Rattle.row.specs.Slots.{encodeSlots, slotsAt}
+use Rattle.row.proofs.ListTests.{list-bytes}
+use Rattle.log.specs.Store.{MaybeStamp, Store, derive, neverFalls, sameId, heldRise, noTwice, marksRise, floorOk, clockOk, rules}
+use Rattle.log.specs.Areas.{Areas, areas, capacity, floorWords, encodeMarks, loggedRows, logBytes, heldBytes, headBytes, rowsOf, stampAt, floorAt, marksAt, decodeStore, countsOk, holds, soundAreas, longEnough, readStore}
+use Rattle.merging.specs.Merging.{sameContent}
+use Rattle.merging.specs.Calls.{raiseFloor}
+use Rattle.merging.specs.Offers.{Call, Given, AllGiven, Empty, batchRows, offered, Accepted, accepted, Spans, OneContent, Within, Converges}
+use Rattle.merging.specs.Group.{stampOf, rowOf, held, emptyStore, r21}
+use Rattle.merging.proofs.Examples.{limits, r11, computing, reading}
+use Rattle.merging.proofs.RulesKept.{all-every}
+use Rattle.merging.proofs.RowContent.{one-row}
+use Rattle.merging.proofs.Convergence.{convergence}
+use Rattle.merging.proofs.CallTraces.{answerOn, Trace, trace, Traces, traced}
+use Rattle.words.specs.Lists.{all}
+
+-- ---- the calls
+
+-- areas of nothing but zeros, with room for four logged rows
+abbrev pub blank : Areas
+blank = areas (replicate 2816 0) (replicate 45056 0) (replicate 2120 0)
+
+-- beside 1:1 and 2:1, which needs it: 2:2, and 3:2, whose author's first row never comes
+abbrev pub r22 : Row
+r22 = rowOf 7 2 2 [] (9 ∷ [])
+
+abbrev pub r32 : Row
+r32 = rowOf 4 3 2 [] []
+
+-- their bytes in a batch: stamp, author, sequence, dependencies, payload, signature; verdict 1, outcome 0, detail 0
+abbrev pub bytes11 : List ℕ
+bytes11 = 5 ∷ 0 ∷ 1 ∷ 1 ∷ 1 ∷ 0 ∷ 0 ∷ 0 ∷ 1 ∷ 0 ∷ 0 ∷ []
+
+abbrev pub bytes21 : List ℕ
+bytes21 = 3 ∷ 0 ∷ 2 ∷ 2 ∷ 1 ∷ 1 ∷ 1 ∷ 1 ∷ 0 ∷ 0 ∷ 1 ∷ 0 ∷ 0 ∷ []
+
+abbrev pub bytes22 : List ℕ
+bytes22 = 7 ∷ 0 ∷ 2 ∷ 2 ∷ 2 ∷ 0 ∷ 1 ∷ 9 ∷ 0 ∷ 1 ∷ 0 ∷ 0 ∷ []
+
+abbrev pub bytes32 : List ℕ
+bytes32 = 4 ∷ 0 ∷ 3 ∷ 3 ∷ 2 ∷ 0 ∷ 0 ∷ 0 ∷ 1 ∷ 0 ∷ 0 ∷ []
+
+-- 1:1 with another payload and verdict 0, which is 12: a refused batch offers nothing
+abbrev pub forged : List ℕ
+forged = 5 ∷ 0 ∷ 1 ∷ 1 ∷ 1 ∷ 0 ∷ 1 ∷ 8 ∷ 0 ∷ 0 ∷ 0 ∷ 0 ∷ []
+
+-- a batch call at a time, under pending age 50
+abbrev pub bring : ℕ → List ℕ → Call
+bring time bytes =
+    Call.batch (record { limits = limits 64 50; time = time; batch = bytes; scratch = replicate 2816 0; output = replicate 72 0 })
+
+-- the times of the accepted batches span 50 and 10
+abbrev pub calls₁ : List Call
+calls₁ = bring 1000 (2 ∷ bytes21 ++ bytes32) ∷ bring 1010 (1 ∷ forged) ∷ bring 1050 (2 ∷ bytes11 ++ bytes22) ∷ []
+
+abbrev pub calls₂ : List Call
+calls₂ = bring 70 (1 ∷ bytes11) ∷ Call.floor (stampOf 5 1) ∷ bring 60 (2 ∷ bytes22 ++ bytes32) ∷ bring 65 (1 ∷ bytes21) ∷ []
+
+-- ---- what they come to, computed
+
+abbrev pub at : ℕ → Accepted
+at time = record { time = time; age = 50 }
+
+-- a store with the three rows logged, and 3:2 held since then
+abbrev pub after : ℕ → MaybeStamp → Store
+after time f =
+    record {
+      log = r21 ∷ r11 ∷ r22 ∷ [];
+      held = held time r32 ∷ [];
+      floor = f;
+      clock = (1, 1) ∷ (2, 2) ∷ [];
+      compacted = [];
+      marks = record { author = 1; stamp = stampOf 5 1 } ∷ record { author = 2; stamp = stampOf 7 2 } ∷ [];
+    }
+
+abbrev pub trace₁ : Trace
+trace₁ = record { store = after 1000 none; offers = r21 ∷ r32 ∷ r11 ∷ r22 ∷ []; accepts = at 1000 ∷ at 1050 ∷ [] }
+
+abbrev pub trace₂ : Trace
+trace₂ = record { store = after 60 (some (stampOf 5 1)); offers = r11 ∷ r22 ∷ r32 ∷ r21 ∷ []; accepts = at 70 ∷ at 60 ∷ at 65 ∷ [] }
+
+-- stands for the definitions that read a batch and trace calls
+tracing : ℕ
+unfolding computing reading trace answerOn batchRows raiseFloor
+tracing = 0
+
+-- over the store as values and the batches' bytes
+computed₁ : trace 4 calls₁ (emptyStore none) ≡ trace₁
+unfolding tracing
+computed₁ = refl
+
+computed₂ : trace 4 calls₂ (emptyStore none) ≡ trace₂
+unfolding tracing
+computed₂ = refl
+
+-- over all 49,992 bytes: they hold an empty store
+pub blank-reads : readStore blank ≡ done (emptyStore none)
+unfolding computing readStore longEnough soundAreas countsOk holds decodeStore capacity logBytes heldBytes headBytes encodeSlots loggedRows encodeMarks floorWords floorAt stampAt marksAt slotsAt clockAt column entries clockOf clockBytes zipped pairs authorsOf numbersOf rules derive all neverFalls heldRise noTwice marksRise floorOk clockOk rising wordPairs pad bes get64
+blank-reads = refl
+
+room : capacity (replicate 2816 0) ≡ 4
+unfolding capacity
+room = refl
+
+-- ---- the hypotheses
+
+empty : Empty blank
+empty = record { store = emptyStore none; holds = blank-reads; log = refl; held = refl; clock = refl; marks = refl }
+
+-- a call can be made, tested
+unfoldable canMake : Call → Bool
+canMake (Call.batch c) = ltb (c .time) (2 ^ 64) && byteList (c .batch)
+canMake (Call.floor t) = stampOk t
+
+given-tested : (cs : List Call) → all canMake cs ≡ true → AllGiven cs
+unfolding canMake
+given-tested cs t c m = by-call c (all-every canMake cs t c m)
+  where
+    by-call : (c : Call) → canMake c ≡ true → Given c
+    by-call (Call.batch c) h = (ltb-true _ _ (and-left _ _ h), list-bytes (c .batch) (and-right (ltb (c .time) (2 ^ 64)) _ h))
+    by-call (Call.floor t) h = h
+
+given₁ : AllGiven calls₁
+unfolding canMake all byteList
+given₁ = given-tested calls₁ refl
+
+given₂ : AllGiven calls₂
+unfolding canMake all byteList stampOk
+given₂ = given-tested calls₂ refl
+
+pub traces₁ : Traces blank calls₁ trace₁
+traces₁ = rw computed₁ at (traced 4 calls₁ given₁ blank (emptyStore none) blank-reads room)
+
+pub traces₂ : Traces blank calls₂ trace₂
+traces₂ = rw computed₂ at (traced 4 calls₂ given₂ blank (emptyStore none) blank-reads room)
+
+same-id : (r s : Row) → r .author ≡ s .author → r .seq ≡ s .seq → sameId r s ≡ true
+unfolding sameId
+same-id r s a q = and-both _ _ (eq-eqb _ _ a) (eq-eqb _ _ q)
+
+-- rows of one author and sequence are one row, tested
+unfoldable oneContent : List Row → Bool
+oneContent rows = all (λ r. all (λ s. not (sameId r s) || sameContent r s) rows) rows
+
+one-tested : (rows : List Row) → oneContent rows ≡ true → OneContent rows
+unfolding oneContent
+one-tested rows t r s m n a q =
+    let h : not (sameId r s) || sameContent r s ≡ true = all-every _ rows (all-every (λ r. all (λ s. not (sameId r s) || sameContent r s) rows) rows t r m) s n in
+    one-row r s .0 (a, q, rw (same-id r s a q) at h)
+
+one : OneContent (offered blank calls₁ ++ offered blank calls₂)
+unfolding computing oneContent all
+one = rw (traces₁ .offers, traces₂ .offers) (one-tested _ refl)
+
+-- times within each age, tested
+unfoldable spanning : List Accepted → Bool
+spanning xs = all (λ x. all (λ y. all (λ z. leb (x .time) (y .time + z .age)) xs) xs) xs
+
+spans-tested : (xs : List Accepted) → spanning xs ≡ true → Spans xs
+unfolding spanning
+spans-tested xs t x y z i j k =
+    let over = all-every (λ x. all (λ y. all (λ z. leb (x .time) (y .time + z .age)) xs) xs) xs t x i in
+    let from = all-every (λ y. all (λ z. leb (x .time) (y .time + z .age)) xs) xs over y j in
+    omega (arith, leb-true (x .time) (y .time + z .age) (all-every (λ z. leb (x .time) (y .time + z .age)) xs from z k))
+
+spans₁ : Spans (accepted blank calls₁)
+unfolding spanning all
+spans₁ = rw (traces₁ .accepts) (spans-tested _ refl)
+
+spans₂ : Spans (accepted blank calls₂)
+unfolding spanning all
+spans₂ = rw (traces₂ .accepts) (spans-tested _ refl)
+
+-- ---- demand 3 of these lists
+
+pub converges : Converges blank blank calls₁ calls₂
+converges = convergence blank blank calls₁ calls₂ given₁ given₂ empty empty one spans₁ spans₂
+
+-- the two lists offer the same rows, tested
+unfoldable has : Row → List Row → Bool
+has r [] = false
+has r (s ∷ rows) = (sameId r s && sameContent r s) || has r rows
+
+has-there : (r : Row) (rows : List Row) → has r rows ≡ true → List·Memᴰ r rows
+unfolding has sameId
+has-there r [] t = absurd (clash t refl)
+has-there r (s ∷ rows) t = elim (test (sameId r s && sameContent r s)) [
+  | inl h ↦
+      let k = and-left (sameId r s) _ h in
+      List·Memᴰ·head (one-row r s .0 (eqb-true _ _ (and-left _ _ k), eqb-true _ _ (and-right (eqb (r .author) (s .author)) _ k), and-right (sameId r s) _ h))
+  | inr h ↦ List·Memᴰ·tail (has-there r rows (rw h at t))
+]
+
+within-tested : (few many : List Row) → all (λ r. has r many) few ≡ true → Within few many
+within-tested few many t r m = has-there r many (all-every (λ r. has r many) few t r m)
+
+to : Within (offered blank calls₁) (offered blank calls₂)
+unfolding computing has all
+to = rw (traces₁ .offers, traces₂ .offers) (within-tested _ _ refl)
+
+from : Within (offered blank calls₂) (offered blank calls₁)
+unfolding computing has all
+from = rw (traces₁ .offers, traces₂ .offers) (within-tested _ _ refl)
+
+-- so their logs, clocks and held rows agree, and these are they
+pub record Shown : Type 0 where
+  pub same-log : converges .store₁ .log ≡ converges .store₂ .log
+  pub same-clock : converges .store₁ .clock ≡ converges .store₂ .clock
+  pub same-held : rowsOf (converges .store₁ .held) ≡ rowsOf (converges .store₂ .held)
+  pub ends₁ : converges .store₁ ≡ after 1000 none
+  pub ends₂ : converges .store₂ ≡ after 60 (some (stampOf 5 1))
+
+pub shown : Shown
+shown =
+    record {
+      same-log = converges .agree .same-log to from;
+      same-clock = converges .agree .same-clock to from;
+      same-held = converges .agree .same-held to from;
+      ends₁ = done-same (sym (converges .holds₁) ∙ traces₁ .holds);
+      ends₂ = done-same (sym (converges .holds₂) ∙ traces₂ .holds);
+    }
+  where
+    done-same : {s t : Store} → _≡_ {A = Answer Store} (done s) (done t) → s ≡ t
+    done-same e = cc

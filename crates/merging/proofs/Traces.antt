@@ -1,0 +1,84 @@
+-- What an accepted merge went through: the answers of its steps (specs/Trace).
+use Prim.Native.Nat.{ℕ, _+_, _-_}
+use mathlib.Core.Path.{_≡_, refl}
+use mathlib.Core.Bool.{Bool, true, false, _&&_}
+use mathlib.Core.List.{List, [], _∷_}
+use native.Mathlib.Omega.{arith}
+use lib.ListN.{length}
+use lib.Dec.{leb}
+use borrow.Author.Tests.{leb-true}
+use Rattle.error.specs.declared.Refusal.{Refusal}
+use Rattle.error.specs.Answer.{Answer, done, refused, andThen, unless, nothing}
+use Rattle.row.specs.Rows.{Row}
+use Rattle.log.specs.Store.{Store}
+use Rattle.log.specs.Areas.{readStore}
+use Rattle.merging.specs.Batch.{limitsOk, readBatch, validateAll}
+use Rattle.merging.specs.Merging.{admitAll, quotas, commit, settle, finish, merge}
+use Rattle.merging.specs.Calls.{roomFor, batchAnswer}
+use Rattle.merging.specs.Trace.{Fits, MergeWent, CallAnswered}
+use Rattle.log.specs.Insertion.{insert, insertAll, fits}
+
+-- an answer is no refusal
+pub not-refused : {A : Type 0} {r : Refusal} {a : A} → refused r ≡ done a → ⊥
+not-refused {r = r} {a = a} e =
+    let z : _≡_ {A = ℕ} 0 1 = cc in
+    omega arith
+
+pub unless-done : {A : Type 0} (test : Bool) (r : Refusal) (x : Answer A) {a : A} → unless test r x ≡ done a → (test ≡ true) × (x ≡ done a)
+unless-done true r x e = (refl, e)
+unless-done false r x e = absurd (not-refused e)
+
+pub then-done : {A B : Type 0} (x : Answer A) (f : A → Answer B) {b : B} → andThen x f ≡ done b → (a : A) × (x ≡ done a) × (f a ≡ done b)
+then-done (done a) f e = (a, refl, e)
+then-done (refused r) f e = absurd (not-refused e)
+
+both : (a b : Bool) → a && b ≡ true → (a ≡ true) × (b ≡ true)
+both true b e = (refl, e)
+both false b e = absurd (let z : _≡_ {A = ℕ} 0 1 = cc in omega arith)
+
+pub fits-done : (cap : ℕ) (s : Store) {t : Store} → fits cap s ≡ done t → (s ≡ t) × Fits cap s
+unfolding fits
+fits-done cap s {t} e =
+    let (p, q) = unless-done (leb (length (s .log)) cap) _ _ e in
+    let (u, v) = unless-done (leb (length (s .clock)) 32 && leb (length (s .marks)) 32) _ _ q in
+    let (x, y) = both (leb (length (s .clock)) 32) _ u in
+    (cc, record { log = leb-true _ _ p; clock = leb-true _ _ x; marks = leb-true _ _ y })
+
+-- inserting rows leaves the held ones
+pub insert-held : (s : Store) (rows : List Row) → insertAll s rows .held ≡ s .held
+unfolding insertAll insert
+insert-held s [] = refl
+insert-held s (r ∷ rows) = insert-held (insert s r) rows
+
+the-unit : (u : Unit) → u ≡ nothing
+the-unit nothing = refl
+
+pub merge-went : MergeWent
+unfolding merge finish
+merge-went cap l time s rows m e =
+    let (u, v, e₁) = then-done (validateAll l time rows) _ e in
+    let (a, ad, e₂) = then-done (admitAll (s .clock) time _ rows) _ e₁ in
+    let (w, q, e₃) = then-done (quotas l (settle s a .waiting)) _ e₂ in
+    let (t, f, e₄) = then-done (fits cap (commit s (settle s a))) _ e₃ in
+    let (p, fit) = fits-done cap (commit s (settle s a)) f in
+    let g = the-unit u in
+    let h = the-unit w in
+    record {
+      valid = cc;
+      admitted = a;
+      admits = ad;
+      quota = cc;
+      within = fit;
+      store = cc;
+      told = cc;
+      lines-are = cc;
+    }
+
+pub call-answered : CallAnswered
+unfolding batchAnswer
+call-answered a c m e =
+    let (p, e₁) = unless-done (limitsOk (c .limits)) _ _ e in
+    let (s, q, e₂) = then-done (readStore a) _ e₁ in
+    let (rows, r, e₃) = then-done (readBatch (c .batch)) _ e₂ in
+    let (t, e₄) = unless-done (roomFor (length (s .held) + length rows) (c .scratch) (c .output)) _ _ e₃ in
+    record { limits = p; store = s; reads = q; rows = rows; brings = r; room = t; merges = e₄ }

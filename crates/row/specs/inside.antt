@@ -1,0 +1,3 @@
+pub mod RowParts
+pub mod SlotParts
+pub mod WireLengths
