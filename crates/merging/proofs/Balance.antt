@@ -14,7 +14,7 @@ use Rattle.row.specs.Rows.{HeldRow, workLess}
 use Rattle.row.specs.Reading.{BatchRow}
 use Rattle.log.specs.Store.{Store}
 use Rattle.log.specs.Areas.{rowsOf}
-use Rattle.merging.specs.Merging.{unexpired, sameContent, Known, absent, present, look, enter, Admitted, starting, arrived, duplicate, whenKnown, admit, admitAll, ready, FirstReady, noneReady, firstIs, past, firstReady, Drained, logging, dropping, takeFirst, toDrain, drain, fate, Report, Merged, commit, report, settle}
+use Rattle.merging.specs.Merging.{unexpired, sameContent, Known, absent, present, look, enter, Admitted, starting, arrived, duplicate, whenKnown, admit, admitAll, ready, FirstReady, noneReady, firstIs, past, firstReady, Drained, logging, dropping, takeFirst, toDrain, drain, fate, Report, Merged, commit, report, settle, inTime}
 use Rattle.merging.specs.Calls.{batchAnswer, batchEnds, batchCall}
 use Rattle.merging.specs.Balance.{Sums, Balance, BatchBalance}
 use Rattle.merging.proofs.Traces.{unless-done, then-done, not-refused, insert-held, merge-went, call-answered}
@@ -30,7 +30,7 @@ unexpired-length : (cutoff : ℕ) (hs : List HeldRow) → length (unexpired cuto
 unfolding unexpired
 unexpired-length cutoff [] = omega arith
 unexpired-length cutoff (h ∷ hs) =
-    let one : length (unexpired cutoff (h ∷ hs)) ≤ suc (length (unexpired cutoff hs)) = expire-length (leb cutoff (h .arrival)) h (unexpired cutoff hs) in
+    let one : length (unexpired cutoff (h ∷ hs)) ≤ suc (length (unexpired cutoff hs)) = expire-length (inTime cutoff h) h (unexpired cutoff hs) in
     omega (arith, unexpired-length cutoff hs)
 
 -- ---- 2. each row of the batch becomes a working row or a duplicate

@@ -19,7 +19,7 @@ use Rattle.row.specs.Reading.{BatchRow, number, readHead, readPair, readPairs, 
 use Rattle.log.specs.Store.{Mark, sameId, sameEntries}
 use Rattle.log.specs.Areas.{rowsOf}
 use Rattle.merging.specs.Batch.{Limits, limitsOk, readRows, readBatch, ownFuture, validate, validateAll}
-use Rattle.merging.specs.Merging.{unexpired, sameStamp, sameContent, look, enter, whenKnown, admit, admitAll, ready, past, firstReady, takeFirst, drain, aboveFloor, fate, fateDetail, line, rowLine, lines, payloadBytes, authors, times, lower, lowestOver, authorQuota, quotas, Report, Merged, commit, report, settle, finish, merge}
+use Rattle.merging.specs.Merging.{unexpired, sameStamp, sameContent, look, enter, whenKnown, admit, admitAll, ready, past, firstReady, takeFirst, drain, aboveFloor, fate, fateDetail, line, rowLine, lines, payloadBytes, authors, times, lower, lowestOver, authorQuota, quotas, Report, Merged, commit, report, settle, finish, merge, inTime}
 use Rattle.merging.specs.Calls.{roomFor}
 use Rattle.merging.specs.Offers.{logLess}
 use Rattle.merging.specs.Group.{stampOf, rowOf, given, held, emptyStore, settings, r21}
@@ -83,7 +83,7 @@ r11 = rowOf 5 1 1 [] []
 
 -- stands for the definitions that an example opens
 unfoldable pub computing : ℕ
-unfolding limitsOk roomFor be64 logLess merge validateAll validate ownFuture saturating unexpired admitAll admit get look sameId sameStamp sameContent sameEntries same whenKnown enter workLess workKey stampKey less stampLess settle drain takeFirst firstReady past ready dominates observe put finish quotas payloadBytes lowestOver authors times countIf lower authorQuota commit insertAll insert insertRow raise later fits report fate aboveFloor fateDetail line rowLine lines rowsOf
+unfolding limitsOk roomFor be64 logLess merge validateAll validate ownFuture saturating inTime unexpired admitAll admit get look sameId sameStamp sameContent sameEntries same whenKnown enter workLess workKey stampKey less stampLess settle drain takeFirst firstReady past ready dominates observe put finish quotas payloadBytes lowestOver authors times countIf lower authorQuota commit insertAll insert insertRow raise later fits report fate aboveFloor fateDetail line rowLine lines rowsOf
 computing = 0
 
 -- 01: "author 2's row 1 needing 1:1 is held, then 1:1 logs both", in stamp order

@@ -13,7 +13,7 @@ use Rattle.clock.specs.Order.{stampLess}
 use Rattle.row.specs.Rows.{Row, HeldRow, workLess}
 use Rattle.log.specs.Store.{Store}
 use Rattle.log.specs.Areas.{rowsOf}
-use Rattle.merging.specs.Merging.{unexpired, enter}
+use Rattle.merging.specs.Merging.{unexpired, enter, inTime}
 use Rattle.merging.specs.Offers.{Sorted}
 use Rattle.merging.proofs.SortedLists.{place}
 use Rattle.log.specs.Insertion.{insertRow, insert, insertAll}
@@ -91,7 +91,7 @@ expire-cases false k hs h m = inr m
 pub unexpired-old : (cutoff : ℕ) (hs : List HeldRow) (h : HeldRow) → List·Memᴰ h (unexpired cutoff hs) → List·Memᴰ h hs
 unfolding unexpired
 unexpired-old cutoff [] h m = m
-unexpired-old cutoff (k ∷ hs) h m = elim (expire-cases (leb cutoff (k .arrival)) k (unexpired cutoff hs) h m) [
+unexpired-old cutoff (k ∷ hs) h m = elim (expire-cases (inTime cutoff k) k (unexpired cutoff hs) h m) [
   | inl e ↦ List·Memᴰ·head e
   | inr j ↦ List·Memᴰ·tail (unexpired-old cutoff hs h j)
 ]
@@ -102,11 +102,11 @@ expire-not false k hs f = absurd (f refl)
 
 -- nothing expires that arrived late enough
 pub unexpired-all : (cutoff : ℕ) (hs : List HeldRow) → ((h : HeldRow) → List·Memᴰ h hs → cutoff ≤ h .arrival) → unexpired cutoff hs ≡ hs
-unfolding unexpired
+unfolding unexpired inTime
 unexpired-all cutoff [] f = refl
 unexpired-all cutoff (k ∷ hs) f =
     let late : cutoff ≤ k .arrival = f k (List·Memᴰ·head refl) in
-    rw (unexpired-all cutoff hs (λ h m. f h (List·Memᴰ·tail m))) (expire-not (leb cutoff (k .arrival)) k hs (λ e. omega (arith, leb-false)))
+    rw (unexpired-all cutoff hs (λ h m. f h (List·Memᴰ·tail m))) (expire-not (inTime cutoff k) k hs (λ e. omega (arith, leb-false)))
 
 -- what is in order stays so
 expire-sorted : (less : Row → Row → Bool) (b : Bool) (k : HeldRow) (hs : List HeldRow) → Sorted less (k .row ∷ rowsOf hs) → Sorted less (rowsOf (pick b (k ∷ hs) hs))
@@ -119,4 +119,4 @@ unfolding unexpired rowsOf
 sorted-unexpired less cutoff [] s = s
 sorted-unexpired less cutoff (h ∷ hs) (Sorted.more f s) =
     let old = rows-every (λ y. List·Memᴰ y (rowsOf hs)) (unexpired cutoff hs) (λ k m. rows-mem hs (unexpired-old cutoff hs k m)) in
-    expire-sorted less (leb cutoff (h .arrival)) h (unexpired cutoff hs) (Sorted.more {r = h .row} {rows = rowsOf (unexpired cutoff hs)} (λ y m. f y (old y m)) (sorted-unexpired less cutoff hs s))
+    expire-sorted less (inTime cutoff h) h (unexpired cutoff hs) (Sorted.more {r = h .row} {rows = rowsOf (unexpired cutoff hs)} (λ y m. f y (old y m)) (sorted-unexpired less cutoff hs s))

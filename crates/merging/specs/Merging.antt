@@ -23,9 +23,12 @@ use Rattle.log.specs.Insertion.{insertAll, fits}
 
 -- ---- 1. 01: "Held rows with arrival below time minus `max_pending_age_ms` (not below 0) expire."
 
+unfoldable pub inTime : (cutoff : Time) → HeldRow → Bool
+inTime cutoff h = leb cutoff (h .arrival)
+
 unfoldable pub unexpired : (cutoff : Time) → List HeldRow → List HeldRow
 unexpired cutoff [] = []
-unexpired cutoff (h ∷ hs) = pick (leb cutoff (h .arrival)) (h ∷ unexpired cutoff hs) (unexpired cutoff hs)
+unexpired cutoff (h ∷ hs) = pick (inTime cutoff h) (h ∷ unexpired cutoff hs) (unexpired cutoff hs)
 
 -- the held rows that stay; `_-_` stops at 0
 abbrev pub staying : Limits → Time → Store → List HeldRow

@@ -16,7 +16,7 @@ use Rattle.row.specs.Slots.{slotAt, slotOk, slotsAt, decodeHeld}
 use Rattle.row.specs.Reading.{BatchRow, readRow}
 use Rattle.row.proofs.Operations.{word-part}
 use Rattle.merging.specs.Batch.{readRows}
-use Rattle.merging.specs.Merging.{admit, admitAll, unexpired}
+use Rattle.merging.specs.Merging.{admit, admitAll, unexpired, inTime}
 use Rattle.merging.proofs.RowStarts.{start-next}
 use Rattle.working.specs.inside.References.{isRead, refsOk, workRows}
 use Rattle.working.specs.inside.Scratch.{Working, Unexpired, Begun, AdmitsAll}
@@ -271,7 +271,7 @@ length-slots held at (suc n) = ap suc (length-slots held (at + 704) n)
 
 module _ {held s : List ℕ} {count cutoff n i : ℕ} (g : Lasting held s count cutoff n i) where
   pub lasting-end : count ≤ i → 16 * count ≤ length s → (batch : List ℕ) (time : ℕ) → Unexpired held batch time cutoff (slotsAt held 0 count) s n
-  unfolding slotsAt unexpired
+  unfolding slotsAt unexpired inTime
   lasting-end h r batch time =
       let z : count - i ≡ 0 = omega (arith, g .turn) in
       record {
@@ -287,7 +287,7 @@ module _ {held s : List ℕ} {count cutoff n i : ℕ} (g : Lasting held s count 
 
     first : (b : Bool) → leb cutoff arrived ≡ b → unexpired cutoff (slotsAt held (704 * i) (count - i))
         ≡ pick b ((decodeHeld (slotAt held (704 * i))) ∷ (unexpired cutoff (slotsAt held (704 * (i + 1)) (count - (i + 1))))) (unexpired cutoff (slotsAt held (704 * (i + 1)) (count - (i + 1))))
-    unfolding unexpired
+    unfolding unexpired inTime
     first b e = rw (slots-next held count i h, arrival-is, e)
 
     pub lasting-past : arrived < cutoff → Lasting held s count cutoff n (i + 1)
