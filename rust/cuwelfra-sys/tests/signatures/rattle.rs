@@ -4,8 +4,8 @@ use crate::forms::{named, spellings, Declaration, Item, Source};
 use crate::rust::{all_tokens, answer, joined, list, structs};
 use crate::tokens::{Cursor, Token};
 
-/// Parameters whose name cannot stand in Rattle, where `log` and `peer` are crates and `now` belongs to contracts.
-const PARAMETERS: [(&str, &str); 3] = [("rows", "log"), ("area", "peer"), ("ms", "now")];
+/// Parameters that have another name in Rattle, where `peer` is a crate and `now` belongs to contracts.
+const PARAMETERS: [(&str, &str); 2] = [("area", "peer"), ("ms", "now")];
 
 /// Structs whose name is taken in Rattle by the answer of the crate below.
 const STRUCTS: [(&str, &str); 8] = [
