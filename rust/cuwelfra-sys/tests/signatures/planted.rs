@@ -29,9 +29,9 @@ pub extern "C" fn cuwelfra_put<'a>(
 }
 
 #[no_mangle]
-pub extern "C" fn cuwelfra_check(rows: &[u8], ms: u64) -> error::Told
+pub extern "C" fn cuwelfra_check(log: &[u8], ms: u64) -> error::Told
 {
-    check(rows, ms)
+    check(log, ms)
 }
 "#;
 
