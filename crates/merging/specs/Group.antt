@@ -65,10 +65,11 @@ settings pending perActor bytes age drift deps payload =
       maxPayload = payload;
     }
 
--- 2:1, which waits for 1:1, held since it arrived
+-- 2:1, which waits for 1:1
 abbrev pub r21 : Row
 r21 = rowOf 3 2 1 ((1, 1) ∷ []) []
 
+-- a store that holds it since it arrived
 abbrev pub holding : (arrival : Time) → Store
 holding arrival = record { log = []; held = held arrival r21 ∷ []; floor = none; clock = []; compacted = []; marks = [] }
 
