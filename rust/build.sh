@@ -86,6 +86,7 @@ need_tools() {
 # Makes the program desks, and notes which library was asked for.
 build_desks() {
     build desks
+    [ -x "$programs/desks" ] || stop 3 "cargo has put the program elsewhere than in $programs: is there a build.target in its settings?"
     date_back "$started" "$programs/desks"
     echo "${CUWELFRA_LIB_DIR:-}" >"$programs/desks.library"
 }
@@ -111,7 +112,7 @@ build() { # PACKAGE
 
 # Gives a file that was made the time at which its making began, so that a source that changed meanwhile is newer.
 date_back() { # TIME FILE
-    touch -d "@${1/,/.}" "$2"
+    touch -c -d "@${1/,/.}" "$2"
 }
 
 cargo_build() { # PACKAGE

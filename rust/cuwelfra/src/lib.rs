@@ -4,6 +4,7 @@
 //!
 //! - [`Store`] keeps the rows, logged and held; [`Batch`] brings rows to it, [`Request`] the time and the settings, its
 //!   [`Limits`]; [`Report`] tells what became of them.
+//! - [`Store::save`], [`Store::load`] and [`Update`] keep a store in a file.
 //! - [`Delta`] is what a peer lacks, [`Peer`] what is known about one.
 //! - [`HybridClock`] stamps an author's rows, [`VectorClock`] says how far each author's rows are known.
 //! - [`Reader`], [`Writer`] and [`Envelope`] serve the frames between peers.
@@ -105,6 +106,7 @@ mod batch;
 mod clock;
 mod codec;
 mod delta;
+mod fates;
 mod file;
 mod merge;
 mod outcome;
@@ -122,7 +124,7 @@ pub use clock::{Timestamp, VectorClock, CLOCK_BYTES, MAX_AUTHORS};
 pub use codec::{varint_len, Envelope, Reader, Writer, MAX_BODY, MAX_BODY_SIGNATURE};
 pub use cuwelfra_sys::Told;
 pub use delta::Delta;
-pub use file::{FileError, Update};
+pub use file::{write_new, FileError, Update};
 pub use merge::{Fate, Logged, Report, LINE_BYTES};
 pub use outcome::{ApplyError, Outcome};
 pub use peer::{Peer, PeerState, MAX_PINGS, PEER_BYTES};

@@ -22,11 +22,15 @@ pub enum Fate {
 }
 
 impl Fate {
-    fn of(fate: u8, detail: u8) -> Option<Self> {
-        match fate {
-            0 => Some(Self::Applied),
-            1 => Some(Self::Stale),
-            _ => outcome_of(fate - 1, detail)?.err().map(Self::Rejected),
+    /// What the last two bytes of a batch's output line stand for, `None` where no line has them.
+    pub(crate) fn of(fate: u8, detail: u8) -> Option<Self> {
+        match (fate, detail) {
+            (0, 0) => Some(Self::Applied),
+            (1, 0) => Some(Self::Stale),
+            _ => {
+                let outcome = outcome_of(fate.checked_sub(1)?, detail)?;
+                outcome.err().map(Self::Rejected)
+            }
         }
     }
 
@@ -39,10 +43,18 @@ impl Fate {
     /// assert_eq!(Fate::Rejected(ApplyError::Denied).byte(), 4);
     /// ```
     pub fn byte(self) -> u8 {
+        self.parts().0
+    }
+
+    /// The fate byte, and the detail that stands behind it in a batch's output line.
+    pub(crate) fn parts(self) -> (u8, u8) {
         match self {
-            Self::Applied => 0,
-            Self::Stale => 1,
-            Self::Rejected(error) => 1 + parts_of(Err(error)).0,
+            Self::Applied => (0, 0),
+            Self::Stale => (1, 0),
+            Self::Rejected(error) => {
+                let (outcome, detail) = parts_of(Err(error));
+                (1 + outcome, detail)
+            }
         }
     }
 }
@@ -111,7 +123,9 @@ impl Store {
         let time_ms = request.time_ms;
         let told = sys::apply_remote_ops(settings, time_ms, areas, batch, scratch, &mut output);
         Refusal::check(told.told)?;
-        report(&told, &output)
+        let report = report(&told, &output)?;
+        self.note_fates(&report.logged)?;
+        Ok(report)
     }
 
     /// How many rows the call may have at work: the held ones and the batch's, as they are counted. It refuses a count
@@ -167,9 +181,9 @@ mod tests {
                 fate,
             };
             assert_eq!(Logged::from_line(&line(number, detail)), Ok(logged));
-            assert_eq!(fate.byte(), number);
+            assert_eq!(fate.parts(), (number, detail));
         }
-        for (number, detail) in [(2, 1), (6, 0), (255, 0)] {
+        for (number, detail) in [(0, 1), (1, 1), (2, 1), (6, 0), (255, 0)] {
             assert_eq!(
                 Logged::from_line(&line(number, detail)),
                 Err(Refusal::MisfitAnswer)

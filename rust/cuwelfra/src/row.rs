@@ -245,6 +245,16 @@ pub(crate) fn row_in(area: &[u8; SLOT_BYTES]) -> Result<HeldRow, Refusal> {
     read(area).ok_or(Refusal::UnsoundStore)
 }
 
+/// Author and sequence of the row in a slot.
+pub(crate) fn number_in(area: &[u8; SLOT_BYTES]) -> (ActorId, u64) {
+    (ActorId(word(area, 24)), word(area, 32))
+}
+
+/// The bytes of the stamp in a slot. Stamps are in the order of their bytes.
+pub(crate) fn stamp_in(area: &[u8; SLOT_BYTES]) -> Option<&[u8; 24]> {
+    area.first_chunk()
+}
+
 fn read(area: &[u8; SLOT_BYTES]) -> Option<HeldRow> {
     let bytes = |at: usize, len_at: usize| {
         let bytes = part(area, at as u64, word(area, len_at)).ok()?;
@@ -256,10 +266,11 @@ fn read(area: &[u8; SLOT_BYTES]) -> Option<HeldRow> {
         u32::try_from(word(area, 8)).ok()?,
         ActorId(word(area, 16)),
     );
+    let (actor, seq) = number_in(area);
     let row = Row {
         timestamp,
-        actor: ActorId(word(area, 24)),
-        seq: word(area, 32),
+        actor,
+        seq,
         deps: (deps <= MAX_DEPS).then(|| pairs(area, DEPS, deps).collect())?,
         payload: bytes(PAYLOAD, PAYLOAD_LEN)?,
         signature: bytes(SIGNATURE, SIGNATURE_LEN)?,

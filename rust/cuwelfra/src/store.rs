@@ -5,9 +5,10 @@ use std::fmt;
 use cuwelfra_sys as sys;
 
 use crate::clock::number;
-use crate::row::{row_in, PAYLOAD};
-use crate::words::{flag, part, small, within};
-use crate::{ActorId, HeldRow, Refusal, Row, Slot, Timestamp, VectorClock};
+use crate::fates::Fates;
+use crate::row::{row_in, stamp_in, PAYLOAD};
+use crate::words::{flag, part, size, small, within, word};
+use crate::{ActorId, Fate, HeldRow, Logged, Refusal, Row, Slot, Timestamp, VectorClock};
 use crate::{CLOCK_BYTES, MAX_PAYLOAD, SLOT_BYTES};
 
 /// Rows of a log at most.
@@ -24,7 +25,8 @@ pub const SCRATCH_BYTES: usize = 704;
 /// A store in three areas: logged rows, held rows, and the head with counts, floor, clocks and watermarks.
 ///
 /// Every call refuses short areas, with 2, and all but [`Store::rebuild`] those that break the rules, with 1. A
-/// refusal leaves the store. Stores are equal when their areas are.
+/// refusal leaves the store. Stores are equal when their areas are; [`Store::fates`], which it keeps beside them, are not
+/// compared.
 ///
 /// ```
 /// use cuwelfra::{ActorId, Batch, Refusal, Request, Row, Store, Timestamp};
@@ -57,6 +59,7 @@ pub struct Store {
     head: Vec<u8>,
     /// Lent to batch calls, which leave it zero.
     scratch: Vec<u8>,
+    fates: Fates,
 }
 
 impl PartialEq for Store {
@@ -110,7 +113,8 @@ impl Store {
         }
     }
 
-    /// Takes over three areas, as [`Store::areas`] gave them. [`Store::check`] says whether they keep the rules.
+    /// Takes over three areas, as [`Store::areas`] gave them. [`Store::check`] says whether they keep the rules. What
+    /// became of the logged rows is not in them, so that [`Store::fates`] knows none.
     ///
     /// ```
     /// use cuwelfra::{Refusal, Store, HEAD_BYTES, HELD_BYTES, SLOT_BYTES};
@@ -134,6 +138,15 @@ impl Store {
             held,
             head,
             scratch: Vec::new(),
+            fates: Fates::default(),
+        }
+    }
+
+    /// The same store, with what became of its logged rows.
+    pub(crate) fn with_fates(self, fates: Vec<Option<Fate>>) -> Self {
+        Self {
+            fates: Fates::new(fates),
+            ..self
         }
     }
 
@@ -142,7 +155,7 @@ impl Store {
         (&self.log, &self.held, &self.head)
     }
 
-    /// Hands the three areas back: log, held, head.
+    /// Hands the three areas back: log, held, head. What became of the logged rows is not in them.
     pub fn into_areas(self) -> (Vec<u8>, Vec<u8>, Vec<u8>) {
         (self.log, self.held, self.head)
     }
@@ -204,7 +217,9 @@ impl Store {
             parts.as_flattened(),
             rows.len(),
             compacted.area(),
-        ))
+        ))?;
+        self.fates = Fates::default();
+        Ok(())
     }
 
     /// Whether the areas keep the rules; 2, 1.
@@ -251,6 +266,39 @@ impl Store {
 
     fn held_slots(&self) -> Result<&[[u8; SLOT_BYTES]], Refusal> {
         first_slots(&self.held, self.held_len()?)
+    }
+
+    /// What became of each logged row, in log order; `None` where that is not known.
+    ///
+    /// It is known of the rows that [`Store::apply_remote_ops`] logged, and stays with them, also in a file. It is not
+    /// known of rows that came by [`Store::insert`], [`Store::rebuild`] or [`Store::from_areas`].
+    ///
+    /// ```
+    /// use cuwelfra::{ActorId, ApplyError, Batch, Fate, Refusal, Request, Row, Slot, Store, Timestamp};
+    ///
+    /// let row = |wall_time, seq, text: &str| Row::new(Timestamp::new(wall_time, 0, ActorId(1)), seq, text);
+    /// let mut batch = Batch::new();
+    /// batch.push(&row(10, 1, "Kette = chain"), true, Ok(()))?;
+    /// batch.push(&row(30, 2, "Kette = necklace"), true, Err(ApplyError::Denied))?;
+    /// let mut store = Store::with_capacity(16)?;
+    /// store.apply_remote_ops(&Request::at(1_000), &batch)?;
+    /// let denied = Fate::Rejected(ApplyError::Denied);
+    /// assert_eq!(store.fates()?, [Some(Fate::Applied), Some(denied)]);
+    ///
+    /// // A row that is put into the log from elsewhere, between the two.
+    /// store.insert(&Slot::logged(&row(20, 3, "Rad = wheel"))?)?;
+    /// assert_eq!(store.fates()?, [Some(Fate::Applied), None, Some(denied)]);
+    /// # Ok::<(), Refusal>(())
+    /// ```
+    pub fn fates(&self) -> Result<Vec<Option<Fate>>, Refusal> {
+        Ok(self.fates.of_rows(self.logged_len()?))
+    }
+
+    /// Notes what became of the rows that an accepted call logged.
+    pub(crate) fn note_fates(&mut self, logged: &[Logged]) -> Result<(), Refusal> {
+        let slots = counted_slots(&self.log, &self.head)?;
+        self.fates.place(slots, logged);
+        Ok(())
     }
 
     /// The row in a slot of the log that an answer names.
@@ -345,7 +393,12 @@ impl Store {
             &self.held,
             &mut self.head,
             row.area(),
-        ))
+        ))?;
+        let stamp = stamp_in(row.area());
+        let slots = counted_slots(&self.log, &self.head)?;
+        let position = slots.partition_point(|slot| stamp_in(slot) < stamp);
+        self.fates.insert_unknown(position);
+        Ok(())
     }
 
     /// Removes the rows whose stamps are at or below the cutoff and gives how many.
@@ -373,7 +426,10 @@ impl Store {
     /// ```
     pub fn compact(&mut self, cutoff: &Timestamp) -> Result<usize, Refusal> {
         let removed = sys::compact(&mut self.log, &self.held, &mut self.head, cutoff.parts());
-        number(removed).and_then(small)
+        let removed = number(removed).and_then(small)?;
+        // The log is in stamp order.
+        self.fates.remove_first(removed);
+        Ok(removed)
     }
 
     /// The latest stamp that is safe to compact to, where all peers have what `frontier` says.
@@ -386,6 +442,11 @@ impl Store {
 fn first_slots(area: &[u8], count: usize) -> Result<&[[u8; SLOT_BYTES]], Refusal> {
     let slots = area.as_chunks().0.get(..count);
     slots.ok_or(Refusal::MisfitAnswer)
+}
+
+/// The used slots of the log, as the head counts them after an accepted call. The store is not tested again.
+fn counted_slots<'a>(log: &'a [u8], head: &[u8]) -> Result<&'a [[u8; SLOT_BYTES]], Refusal> {
+    first_slots(log, size(word(head, 0)))
 }
 
 fn logged_row(slot: &[u8; SLOT_BYTES]) -> Result<Row, Refusal> {

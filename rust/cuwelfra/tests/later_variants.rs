@@ -49,8 +49,16 @@ impl Dated for FileError {
     fn since(&self) -> Since {
         match self {
             Self::Io { .. } | Self::TooShort { .. } | Self::TooLong { .. } => Since::Now,
-            Self::NotAStore | Self::Version(_) | Self::Header { .. } => Since::Now,
-            Self::Checksum { .. } | Self::Counts | Self::Refused(_) | Self::Busy(_) => Since::Now,
+            Self::Empty | Self::NotAStore | Self::Version(_) | Self::Header { .. } => Since::Now,
+            Self::UnknownSection(_) | Self::RepeatedSection(_) => Since::Now,
+            Self::MissingSection(_) | Self::MisplacedSection(_) => Since::Now,
+            Self::Section { .. } | Self::Fate { .. } | Self::FateCount { .. } => Since::Now,
+            Self::Checksum { .. } | Self::Counts | Self::Refused(_) => Since::Now,
+            Self::Busy
+            | Self::NotRegular(_)
+            | Self::ReadOnly
+            | Self::Exists
+            | Self::NotSynced(_) => Since::Now,
             _ => Since::Later,
         }
     }

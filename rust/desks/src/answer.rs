@@ -1,6 +1,6 @@
 //! What a command answers.
 
-/// What a command prints, and whether all went well: nothing was refused, nothing differs.
+/// What a command prints, and whether all went well, by which its status goes.
 pub struct Answer {
     pub text: String,
     pub well: bool,

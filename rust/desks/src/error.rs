@@ -6,6 +6,9 @@ use std::{error, fmt, io};
 
 use cuwelfra::{FileError, Refusal};
 
+use crate::advice::advice;
+use crate::plain::{command, name, shell};
+use crate::refused::Refused;
 use crate::text::Unreadable;
 
 /// Why a command has no answer. None of them has changed a store.
@@ -24,15 +27,28 @@ pub enum Error {
         word: OsString,
         wanted: &'static str,
     },
+    /// Standard input is named more than once.
+    InputTwice,
+    /// The machine's time cannot be had.
+    Clock,
     Read(PathBuf, io::Error),
     Write(PathBuf, io::Error),
     Text(PathBuf, Unreadable),
     /// A file of batches without a row.
     NoRow(PathBuf),
     /// A batch that cannot be written or read as bytes.
-    Batch(String, Refusal),
-    Store(PathBuf, FileError),
+    Batch(String, Refused),
+    /// A store's file, or another one that is written whole or not at all.
+    File(PathBuf, FileError),
     NoStore(PathBuf),
+    /// Nothing says up to where to compact.
+    NoCutoff,
+    /// Rows would be compacted that peers may lack.
+    Unsafe {
+        file: PathBuf,
+        /// What the peers' acknowledgements say.
+        why: String,
+    },
     Refused(Refusal),
 }
 
@@ -40,24 +56,52 @@ impl fmt::Display for Error {
     fn fmt(&self, f: &mut fmt::Formatter<'_>) -> fmt::Result {
         match self {
             Self::NoCommand => write!(f, "no command; --help lists them"),
-            Self::UnknownCommand(name) => {
-                write!(f, "no command {}; --help lists them", name.display())
+            Self::UnknownCommand(word) => {
+                write!(f, "no command {}; --help lists them", name(word))
             }
             Self::UnknownOption(word) => {
-                write!(f, "no option {}; --help lists them", word.display())
+                write!(
+                    f,
+                    "no option {} here, or it stands twice; --help lists them. Behind -- a word is a name, whatever it \
+                     begins with",
+                    name(word)
+                )
             }
             Self::Usage { name, words: "" } => write!(f, "write ./run {name}"),
             Self::Usage { name, words } => write!(f, "write ./run {name} {words}"),
-            Self::Word { word, wanted } => write!(f, "`{}` is no {wanted}", word.display()),
-            Self::Read(file, _) => write!(f, "{}: cannot read it", file.display()),
-            Self::Write(file, _) => write!(f, "{}: cannot write it", file.display()),
-            Self::Text(file, unreadable) => write!(f, "{}, {unreadable}", file.display()),
-            Self::NoRow(file) => write!(f, "{}: no row in it", file.display()),
+            Self::Word { word, wanted } => write!(f, "`{}` is no {wanted}", name(word)),
+            Self::InputTwice => write!(f, "- stands for standard input, which is read once"),
+            Self::Clock => write!(
+                f,
+                "the machine's clock is before 1970; give the time with --time MS"
+            ),
+            Self::Read(file, _) => write!(f, "{}: cannot read it", name(file)),
+            Self::Write(file, _) => write!(f, "{}: cannot write it", name(file)),
+            Self::Text(file, unreadable) => write!(f, "{}, {unreadable}", name(file)),
+            Self::NoRow(file) => write!(f, "{}: no row in it", name(file)),
             Self::Batch(batch, _) => write!(f, "{batch}"),
-            Self::Store(file, _) => write!(f, "{}", file.display()),
+            // Of what stands beside a store it says which file.
+            Self::File(_, FileError::NotRegular(file)) => write!(f, "{}", name(file)),
+            Self::File(file, _) => write!(f, "{}", name(file)),
             Self::NoStore(file) => {
-                write!(f, "{}: no such file; ./run join makes one", file.display())
+                write!(
+                    f,
+                    "{}: no such file; {} join {} FILE... makes one",
+                    name(file),
+                    command(),
+                    shell(file)
+                )
             }
+            Self::NoCutoff => write!(
+                f,
+                "name a STAMP to compact to, or with --cutoff how far each peer has acknowledged"
+            ),
+            Self::Unsafe { file, why } => write!(
+                f,
+                "{}: nothing is compacted: {why}. Name how far each peer has acknowledged with --cutoff; \
+                 --dry-run lists what would go; --force removes it all the same",
+                name(file)
+            ),
             Self::Refused(_) => write!(f, "a call was refused"),
         }
     }
@@ -69,15 +113,20 @@ impl error::Error for Error {
             Self::Read(_, error) | Self::Write(_, error) => Some(error),
             // Where it stands is said with the file.
             Self::Text(_, unreadable) => unreadable.source(),
-            Self::Batch(_, refusal) | Self::Refused(refusal) => Some(refusal),
-            Self::Store(_, error) => Some(error),
+            Self::Batch(_, refused) => Some(refused),
+            Self::File(_, error) => Some(error),
+            Self::Refused(refusal) => Some(refusal),
             Self::NoCommand
             | Self::UnknownCommand(_)
             | Self::UnknownOption(_)
             | Self::Usage { .. }
             | Self::Word { .. }
+            | Self::InputTwice
+            | Self::Clock
             | Self::NoRow(_)
-            | Self::NoStore(_) => None,
+            | Self::NoStore(_)
+            | Self::NoCutoff
+            | Self::Unsafe { .. } => None,
         }
     }
 }
@@ -88,17 +137,22 @@ impl Error {
         let mut text = self.to_string();
         let mut cause = error::Error::source(self);
         while let Some(error) = cause {
-            let said = error.to_string();
-            // Some errors show their cause themselves.
-            if !text.ends_with(&said) {
-                text += &format!(": {said}");
-            }
-            if let Some(refusal) = error.downcast_ref::<Refusal>() {
-                text += &format!("; {}", refusal.advice());
-            }
+            text += &format!(": {error}");
             cause = error.source();
         }
-        text
+        match self.refusal() {
+            Some(refusal) => format!("{text}. {}", advice(refusal).advice),
+            None => text,
+        }
+    }
+
+    /// The refusal behind it.
+    fn refusal(&self) -> Option<Refusal> {
+        match self {
+            Self::Batch(_, refused) => Some(refused.refusal),
+            Self::Refused(refusal) | Self::File(_, FileError::Refused(refusal)) => Some(*refusal),
+            _ => None,
+        }
     }
 }
 
@@ -119,41 +173,57 @@ mod tests {
         let gone = || io::Error::other("it is gone");
         let unreadable = parse(b"\n1 0 1 1 - \"x").expect_err("a text that does not read");
         let refusal = Refusal::Unreadable;
-        let advised = format!("{refusal}; {}", refusal.advice());
+        let refused = Refused {
+            refusal,
+            faults: vec!["line 1: it".to_owned()],
+        };
+        let advised = |said: &str| format!("{said}. {}", advice(refusal).advice);
         let file = || PathBuf::from("a");
+        let step = "open it";
+        let io = FileError::Io {
+            step,
+            error: gone(),
+        };
         let errors = [
             (
                 Error::Read(file(), gone()),
                 "a: cannot read it",
-                "it is gone",
+                "it is gone".to_owned(),
             ),
             (
                 Error::Write(file(), gone()),
                 "a: cannot write it",
-                "it is gone",
+                "it is gone".to_owned(),
             ),
             (
                 Error::Text(file(), unreadable),
                 "a, line 2",
-                "a double quote is not closed",
-            ),
-            (Error::Batch("a 1".to_owned(), refusal), "a 1", &advised),
-            (Error::Refused(refusal), "a call was refused", &advised),
-            (
-                Error::Store(
-                    file(),
-                    FileError::Io {
-                        step: "open it",
-                        error: gone(),
-                    },
-                ),
-                "a",
-                "cannot open it: it is gone",
+                "a double quote is not closed".to_owned(),
             ),
             (
-                Error::Store(file(), FileError::Version(9)),
+                Error::Batch("a 1".to_owned(), refused),
+                "a 1",
+                advised("refusal 3, unreadable; line 1: it"),
+            ),
+            (
+                Error::Refused(refusal),
+                "a call was refused",
+                advised("refusal 3, unreadable"),
+            ),
+            (
+                Error::File(file(), io),
                 "a",
-                &FileError::Version(9).to_string(),
+                "cannot open it: it is gone".to_owned(),
+            ),
+            (
+                Error::File(file(), FileError::Version(9)),
+                "a",
+                FileError::Version(9).to_string(),
+            ),
+            (
+                Error::File(file(), FileError::Refused(refusal)),
+                "a",
+                advised(&FileError::Refused(refusal).to_string()),
             ),
         ];
         for (error, shown, cause) in errors {

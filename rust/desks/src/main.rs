@@ -12,18 +12,24 @@
     )
 )]
 
+mod advice;
 mod answer;
 mod calls;
 mod commands;
 mod desk;
 mod error;
 mod frontier;
+mod notice;
+mod plain;
+mod refused;
+mod screen;
 mod show;
 mod store;
 mod table;
 #[cfg(test)]
 mod tests;
 mod text;
+mod time;
 mod words;
 
 use std::env;
@@ -45,17 +51,23 @@ fn print(answer: &Answer) -> ExitCode {
         .write_all(answer.text.as_bytes())
         .and_then(|()| out.flush());
     match printed {
-        // Who reads only the beginning has seen enough.
-        Err(error) if error.kind() != io::ErrorKind::BrokenPipe => {
-            failed(4, &format!("cannot print: {error}"))
-        }
-        _ if answer.well => ExitCode::SUCCESS,
-        _ => ExitCode::FAILURE,
+        Ok(()) => status(answer),
+        // Who reads only the beginning has seen enough, where there is nothing that he has to know.
+        Err(error) if error.kind() == io::ErrorKind::BrokenPipe && answer.well => status(answer),
+        // What the command did is done: the answer goes where it can still be seen.
+        Err(error) => failed(4, &format!("cannot print: {error}\n{}", answer.text)),
+    }
+}
+
+fn status(answer: &Answer) -> ExitCode {
+    match answer.well {
+        true => ExitCode::SUCCESS,
+        false => ExitCode::FAILURE,
     }
 }
 
 fn failed(status: u8, why: &str) -> ExitCode {
     // Where this cannot be written either, the status still tells it.
-    let _ = writeln!(io::stderr(), "./run: {why}");
+    let _ = writeln!(io::stderr(), "{}: {why}", plain::command());
     ExitCode::from(status)
 }

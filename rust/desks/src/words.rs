@@ -1,24 +1,48 @@
 //! The words behind a command's name.
 
-use std::ffi::OsString;
+use std::ffi::{OsStr, OsString};
 use std::path::PathBuf;
 
-use cuwelfra::Timestamp;
+use cuwelfra::{Limits, Timestamp};
 
+use crate::calls::Settings;
 use crate::error::Error;
-use crate::text;
+use crate::{text, time};
 
 /// The words that were given, and those that the command takes, as the help writes them.
 pub struct Words {
-    pub name: &'static str,
-    pub wanted: &'static str,
-    pub given: Vec<OsString>,
+    name: &'static str,
+    wanted: &'static str,
+    /// Options and names.
+    given: Vec<OsString>,
+    /// The words behind `--`: names, whatever they begin with.
+    names: Vec<OsString>,
 }
 
 impl Words {
+    pub fn new(name: &'static str, wanted: &'static str, mut words: Vec<OsString>) -> Self {
+        let names = match words.iter().position(|word| word == "--") {
+            Some(at) => words.split_off(at).into_iter().skip(1).collect(),
+            None => Vec::new(),
+        };
+        Self {
+            name,
+            wanted,
+            given: words,
+            names,
+        }
+    }
+
+    /// Takes an option out that has no word behind it, and says whether it was there.
+    pub fn flag(&mut self, option: &str) -> bool {
+        let before = self.given.len();
+        self.given.retain(|word| word != option);
+        self.given.len() < before
+    }
+
     /// Takes an option and the word behind it out.
     pub fn option(&mut self, option: &str) -> Result<Option<OsString>, Error> {
-        let Some(at) = self.given.iter().position(|word| word == option) else {
+        let Some(at) = self.position(option) else {
             return Ok(None);
         };
         if at + 1 == self.given.len() {
@@ -28,16 +52,88 @@ impl Words {
         Ok(Some(self.given.remove(at)))
     }
 
+    /// Takes an option out, and the words behind it up to the next option, of which there is one at least.
+    pub fn list(&mut self, option: &str) -> Result<Option<Vec<OsString>>, Error> {
+        let Some(at) = self.position(option) else {
+            return Ok(None);
+        };
+        let behind = self.given.split_off(at);
+        let mut behind = behind.into_iter().skip(1).peekable();
+        let mut list = Vec::new();
+        while let Some(word) = behind.next_if(|word| !is_option(word)) {
+            list.push(word);
+        }
+        match behind.peek() {
+            Some(_) => self.given.extend(behind),
+            None => list.append(&mut self.names),
+        }
+        match list.is_empty() {
+            true => Err(self.usage()),
+            false => Ok(Some(list)),
+        }
+    }
+
+    fn position(&self, option: &str) -> Option<usize> {
+        self.given.iter().position(|word| word == option)
+    }
+
     /// Takes an option's number out; the default where it is not given.
     pub fn number(&mut self, option: &str, default: u64) -> Result<u64, Error> {
+        let number = self.read(option, "whole number below 2^64", whole)?;
+        Ok(number.unwrap_or(default))
+    }
+
+    /// Takes an option's word out and reads it.
+    fn read<T>(
+        &mut self,
+        option: &str,
+        wanted: &'static str,
+        read: impl FnOnce(&str) -> Option<T>,
+    ) -> Result<Option<T>, Error> {
         let Some(word) = self.option(option)? else {
-            return Ok(default);
+            return Ok(None);
         };
-        let number = word.to_str().and_then(|word| text::number("", word).ok());
-        number.ok_or(Error::Word {
-            word,
-            wanted: "whole number below 2^64",
+        match word.to_str().and_then(read) {
+            Some(value) => Ok(Some(value)),
+            None => Err(Error::Word { word, wanted }),
+        }
+    }
+
+    /// Takes the options out that say when and how batches are offered.
+    pub fn settings(&mut self) -> Result<Settings, Error> {
+        Ok(Settings {
+            time_ms: self.time()?,
+            replay: self.flag("--replay"),
+            limits: self
+                .age(Limits::new())?
+                .with_max_drift_ms(self.span("--drift")?.unwrap_or(Limits::new().max_drift_ms)),
         })
+    }
+
+    /// Takes the time out that a command goes by: the machine's where none is given.
+    pub fn time(&mut self) -> Result<u64, Error> {
+        match self.read(
+            "--time",
+            "time, which is a whole number of ms below 2^64",
+            whole,
+        )? {
+            Some(time_ms) => Ok(time_ms),
+            None => time::now(),
+        }
+    }
+
+    /// Takes the time out that a row may wait.
+    pub fn age(&mut self, limits: Limits) -> Result<Limits, Error> {
+        Ok(match self.span("--age")? {
+            Some(ms) => limits.with_max_pending_age_ms(ms),
+            None => limits,
+        })
+    }
+
+    fn span(&mut self, option: &str) -> Result<Option<u64>, Error> {
+        let wanted =
+            "span of time: a whole number of ms, or of s, m, h or d with that letter behind it";
+        self.read(option, wanted, time::span)
     }
 
     /// All words, of which none is an option: as many as asked for.
@@ -56,12 +152,21 @@ impl Words {
         }
     }
 
-    /// All words, of which none is an option. A dash alone is none.
+    /// All words, of which none is an option: at least one.
+    pub fn some(self) -> Result<Vec<OsString>, Error> {
+        let usage = self.usage();
+        let words = self.rest()?;
+        match words.is_empty() {
+            true => Err(usage),
+            false => Ok(words),
+        }
+    }
+
+    /// All words, of which none is an option.
     pub fn rest(self) -> Result<Vec<OsString>, Error> {
-        let option = |word: &&OsString| word.len() > 1 && word.as_encoded_bytes().starts_with(b"-");
-        match self.given.iter().find(option) {
+        match self.given.iter().find(|word| is_option(word)) {
             Some(word) => Err(Error::UnknownOption(word.clone())),
-            None => Ok(self.given),
+            None => Ok([self.given, self.names].concat()),
         }
     }
 
@@ -71,6 +176,16 @@ impl Words {
             words: self.wanted,
         }
     }
+}
+
+/// A whole number.
+fn whole(word: &str) -> Option<u64> {
+    text::number("", word).ok()
+}
+
+/// Whether a word is an option. A dash alone is none.
+fn is_option(word: &OsStr) -> bool {
+    word.len() > 1 && word.as_encoded_bytes().starts_with(b"-")
 }
 
 /// A stamp in one word.

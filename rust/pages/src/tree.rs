@@ -47,7 +47,7 @@ replay: cuwelfra io
 
 /// The machine's own tools that the scripts use, those of this tree among them.
 const TOOLS: [&str; 16] = [
-    "bash", "cat", "cp", "dirname", "find", "grep", "mkdir", "mktemp", "mv", "rm", "sed", "sleep",
+    "bash", "cat", "cp", "find", "grep", "mkdir", "mktemp", "mv", "readlink", "rm", "sed", "sleep",
     "stty", "tail", "tee", "touch",
 ];
 
@@ -93,7 +93,7 @@ esac
 
 /// Every program: says where it was started and with what. The last line is that of the comparisons.
 const PROGRAM: &str = r#"#!/bin/sh
-echo "program in $PWD, columns ${COLUMNS-none}, words:$(printf ' <%s>' "$@")"
+echo "program in $PWD, started by ${CUWELFRA_COMMAND-none}, columns ${COLUMNS-none}, words:$(printf ' <%s>' "$@")"
 echo "differential: 2 suites passed"
 "#;
 

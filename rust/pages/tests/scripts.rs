@@ -1,5 +1,8 @@
 //! The scripts at the repository's top: when they build, what they tell meanwhile, their words and their answers.
 
+use std::os::unix::fs::symlink;
+use std::path::Path;
+
 use pages::files::{read, root};
 use pages::tree::{on_path, ran, Ran, Tree};
 
@@ -59,6 +62,29 @@ fn a_fresh_program_starts_at_once() {
     let ran = tree.run("run", "log a.store");
     ends_well(&ran);
     assert_eq!(ran.err, "");
+}
+
+/// The tree is that of the script itself, whatever stands in the caller's folder, and whatever `cd` would find.
+#[test]
+fn a_link_leads_to_the_scripts_own_tree() {
+    let tree = tree("link");
+    tree.write("../caller/rust/build.sh", "echo another script; exit 0");
+    symlink("../top/run", tree.path("../caller/link")).expect("a link");
+    let mut command = tree.command(Path::new("./link"));
+    let folders = tree.path("..").into_os_string();
+    command.args(["log", "a.store"]).env("CDPATH", folders);
+    let ran = ran(command);
+    ends_well(&ran);
+    assert_eq!(words(&ran), " <log> <a.store>");
+    // The program knows how it was called.
+    assert!(ran.out.contains(", started by ./link, "), "{ran:?}");
+    // Where the tree cannot be found nothing of another one is run.
+    tree.remove("../tools/readlink");
+    let ran = tree.run("run", "log");
+    assert!(
+        ran.status != Some(0) && !ran.out.contains("another"),
+        "{ran:?}"
+    );
 }
 
 #[test]
@@ -404,11 +430,8 @@ fn the_width_is_the_terminals() {
     assert_eq!(columns(&tree.run("run", "log")), "none");
     let set = [("COLUMNS", "55")];
     assert_eq!(columns(&tree.run_with("run", "log", &set)), "55");
-    // `script` starts a command in a terminal of its own.
-    let Some(script) = on_path("script") else {
-        eprintln!("nothing was run in a terminal: this machine has no `script`");
-        return;
-    };
+    // It starts a command in a terminal of its own.
+    let script = on_path("script").expect("util-linux's script");
     let in_terminal = |setting: &str, width: u32| {
         let run = tree.path("run");
         let line = format!("stty rows 20 cols {width}; {setting} {} log", run.display());

@@ -139,7 +139,7 @@ pub(super) const UNKNOWN: Explained = Explained {
     number: 0,
     word: "unknown answer",
     values: &["first value", "second value"],
-    meaning: "The linked library gives an answer that document 01 does not have: it is not the library that this \
+    meaning: "The linked library gives an answer that this crate does not know: it is not the library that this \
               crate was made for.",
     advice: SAME_COMMIT,
 };
@@ -157,7 +157,7 @@ const SAME_COMMIT: &str = "Link the static library and build this crate from the
 
 refusals! {
     1 => UnsoundStore, "unsound store" {
-        meaning: "A lent area breaks a rule of document 01; in a store, a row that does not read, log stamps that \
+        meaning: "A lent area breaks a rule of its layout; in a store, a row that does not read, log stamps that \
                   fall, a clock or watermark that does not go with the rows, held rows out of order, an unused slot \
                   that is not zero. A clock, a peer or a slot lent alone can break its rules too.",
         advice: "Something other than these calls wrote the area, or it was not loaded whole: load the last good \
@@ -171,12 +171,12 @@ refusals! {
     3 => Unreadable, "unreadable" {
         meaning: "A batch does not read: it is cut short, a varint is above 64 bits or a stamp's counter above 32, a \
                   row's dependencies are not by strictly rising author, a closing byte (verdict, outcome, detail) is \
-                  none of document 01's, or bytes are left over.",
+                  none that there is, or bytes are left over.",
         advice: "Fetch the batch again; where it comes the same, its writer has another layout. No row of it was \
                  merged.",
     }
     4 => OverCapacity, "over capacity" {
-        meaning: "A size or a setting is above document 01's closing list. Sizes: 64 rows in a batch, 16 \
+        meaning: "A size or a setting is above its capacity. Sizes: 64 rows in a batch, 16 \
                   dependencies, 256 bytes of payload, 64 of signature, 1,024 rows in a log. Settings: `max_pending` \
                   64, `max_deps` 16, `max_payload` 256.",
         advice: "Split the batch, leave the row out, or lower the setting.",

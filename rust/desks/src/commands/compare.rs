@@ -1,30 +1,28 @@
 //! `compare FILE...`: joins files of batches in the given order and in the reverse, and compares the stores.
 
-use cuwelfra::{Refusal, Row, Store, MAX_LOGGED};
+use cuwelfra::{Refusal, Store, MAX_LOGGED};
 
 use crate::answer::Answer;
-use crate::calls::{self, Told};
+use crate::calls::{self, Settings, Told};
+use crate::commands::join::remarks;
 use crate::desk::Desk;
 use crate::error::Error;
 use crate::show;
-use crate::store::View;
+use crate::store::{View, Waiting};
 use crate::table::counted;
 use crate::text::{self, pairs};
 use crate::words::Words;
 
-pub fn run(words: Words) -> Result<Answer, Error> {
-    let usage = words.usage();
-    let files = words.rest()?;
-    if files.is_empty() {
-        return Err(usage);
-    }
-    let desks = Desk::read_all(files)?;
-    let (first, second) = both_orders(&desks)?;
+pub fn run(mut words: Words) -> Result<Answer, Error> {
+    let settings = words.settings()?;
+    let desks = Desk::read_all(words.some()?)?;
+    let (first, second) = both_orders(&desks, &settings)?;
     let differences = differences(&first.view, &second.view);
     let text = format!(
-        "{}{}{}",
-        section(desks.iter(), &first),
-        section(desks.iter().rev(), &second),
+        "{}{}{}{}",
+        section(desks.iter(), &first, &settings),
+        section(desks.iter().rev(), &second, &settings),
+        remarks(&desks, &settings),
         verdict(&differences, &first.view)
     );
     Ok(Answer {
@@ -34,30 +32,39 @@ pub fn run(words: Words) -> Result<Answer, Error> {
 }
 
 /// What the calls on an empty store told, and the store after them.
-pub struct Joined {
-    pub told: Vec<Told>,
+pub struct Joined<'a> {
+    pub told: Vec<Told<'a>>,
     pub store: Store,
     pub view: View,
 }
 
 /// Joins the desks in the given order and in the reverse, at the same times.
-pub fn both_orders(desks: &[Desk]) -> Result<(Joined, Joined), Refusal> {
-    let time_ms = calls::latest(desks);
+pub fn both_orders<'a>(
+    desks: &'a [Desk],
+    settings: &Settings,
+) -> Result<(Joined<'a>, Joined<'a>), Refusal> {
     Ok((
-        join(desks.iter(), time_ms)?,
-        join(desks.iter().rev(), time_ms)?,
+        join(desks.iter(), settings)?,
+        join(desks.iter().rev(), settings)?,
     ))
 }
 
-fn join<'a>(desks: impl Iterator<Item = &'a Desk>, time_ms: u64) -> Result<Joined, Refusal> {
+fn join<'a>(
+    desks: impl Iterator<Item = &'a Desk>,
+    settings: &Settings,
+) -> Result<Joined<'a>, Refusal> {
     let mut store = Store::with_capacity(MAX_LOGGED)?;
-    let told = calls::offer(&mut store, desks, time_ms);
+    let told = calls::offer(&mut store, desks, settings)?;
     let view = View::of(&store)?;
     Ok(Joined { told, store, view })
 }
 
 /// What one order of desks came to.
-fn section<'a>(desks: impl Iterator<Item = &'a Desk>, joined: &Joined) -> String {
+fn section<'a>(
+    desks: impl Iterator<Item = &'a Desk>,
+    joined: &Joined,
+    settings: &Settings,
+) -> String {
     let names: Vec<&str> = desks.map(|desk| desk.name.as_str()).collect();
     let view = &joined.view;
     format!(
@@ -65,7 +72,7 @@ fn section<'a>(desks: impl Iterator<Item = &'a Desk>, joined: &Joined) -> String
         names.join(", then "),
         show::reports(&joined.told),
         show::log(view),
-        show::held(view),
+        show::held(view, &settings.limits),
         show::clock(view)
     )
 }
@@ -82,13 +89,17 @@ pub fn verdict(differences: &[String], view: &View) -> String {
     )
 }
 
-/// Where two stores differ: logs and held rows row by row, by author, sequence and content, and the clocks.
+/// Where two stores differ: logs and held rows row by row, by author, sequence, content and answer, and the clocks.
 pub fn differences(first: &View, second: &View) -> Vec<String> {
-    let mut differences = rows_apart("log", first.log.iter(), second.log.iter());
+    let mut differences = rows_apart("log", &first.log, &second.log, |logged| {
+        let fate = show::fate(logged.fate);
+        format!("{} ({fate})", text::row(&logged.row))
+    });
     differences.extend(rows_apart(
         "held rows",
-        first.held.iter().map(|held| &held.row),
-        second.held.iter().map(|held| &held.row),
+        &first.held,
+        &second.held,
+        |Waiting { held, .. }| text::answered(&held.row, Some(held.outcome)),
     ));
     if first.clock != second.clock {
         let (first, second) = (pairs(&first.clock), pairs(&second.clock));
@@ -99,18 +110,18 @@ pub fn differences(first: &View, second: &View) -> Vec<String> {
     differences
 }
 
-fn rows_apart<'a>(
+/// Where two lists of rows differ, each row as it is shown.
+fn rows_apart<T>(
     place: &str,
-    first: impl Iterator<Item = &'a Row>,
-    second: impl Iterator<Item = &'a Row>,
+    first: &[T],
+    second: &[T],
+    shown: impl Fn(&T) -> String,
 ) -> Vec<String> {
-    let (first, second): (Vec<&Row>, Vec<&Row>) = (first.collect(), second.collect());
-    let shown = |row: Option<&&Row>| row.map_or("nothing".to_owned(), |row| text::row(row));
+    let shown = |rows: &[T], i: usize| rows.get(i).map_or("nothing".to_owned(), &shown);
     (0..first.len().max(second.len()))
-        .map(|i| (i, first.get(i), second.get(i)))
+        .map(|i| (i, shown(first, i), shown(second, i)))
         .filter(|(_, one, other)| one != other)
         .map(|(i, one, other)| {
-            let (one, other) = (shown(one), shown(other));
             format!("{place}, position {i}: {one} in the first, {other} in the second")
         })
         .collect()

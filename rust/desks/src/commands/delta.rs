@@ -1,16 +1,19 @@
 //! `delta FROM TO`: the rows that one store has logged and another has not.
 
+use std::collections::BTreeMap;
 use std::path::{Path, PathBuf};
 
-use cuwelfra::{BatchRow, Row, MAX_BATCH};
+use cuwelfra::{ActorId, BatchRow, Refusal, Store, VectorClock, MAX_BATCH};
 
 use crate::answer::Answer;
 use crate::desk::write_new;
 use crate::error::Error;
+use crate::notice::outcome;
+use crate::plain::name;
 use crate::show;
-use crate::store::load;
+use crate::store::{load, logged, needs, Logged};
 use crate::table::counted;
-use crate::text::{self, Offer};
+use crate::text::{self, id, Offer};
 use crate::words::Words;
 
 pub fn run(mut words: Words) -> Result<Answer, Error> {
@@ -18,17 +21,25 @@ pub fn run(mut words: Words) -> Result<Answer, Error> {
     let max_bytes = words.number("--bytes", u64::MAX)?;
     let out = words.option("--out")?.map(PathBuf::from);
     let [from, to] = words.exactly()?;
-    let (from, to) = (Path::new(&from), Path::new(&to));
-    let (store, clock) = (load(from)?, load(to)?.clock()?);
-    let chunks = store.delta(&clock)?.chunks(max_rows, max_bytes)?;
-    let (from, to) = (from.display(), to.display());
+    let (store, other) = (load(Path::new(&from))?, load(Path::new(&to))?);
+    let clock = other.clock()?;
+    let chunks = chunks(&store, &clock, max_rows, max_bytes)?;
+    let (from, to) = (name(from), name(to));
 
     let rows: usize = chunks.iter().map(Vec::len).sum();
     let mut text = format!("{to} lacks {} of {from}.\n", counted(rows, "row"));
     if rows > 0 {
-        let lens: Vec<String> = chunks.iter().map(|chunk| chunk.len().to_string()).collect();
-        text += &format!("Rows of each chunk: {}\n\n", lens.join(", "));
+        text += &format!("Rows of each chunk: {}\n\n", lengths(&chunks));
         text += &show::delta(&chunks).to_string();
+    }
+    let held = store.held_len()?;
+    if held > 0 {
+        let held = counted(held, "held row");
+        text += &format!("\nA delta has logged rows alone, not the {held} of {from}.\n");
+    }
+    let differing = differing(&logged(&store)?, &logged(&other)?);
+    if !differing.is_empty() {
+        text += &format!("\nUnder these numbers {from} and {to} have other content or another fate:\n\n{differing}");
     }
     let whole = store.can_serve(&clock)?;
     if !whole {
@@ -36,34 +47,139 @@ pub fn run(mut words: Words) -> Result<Answer, Error> {
             "\nThese are not all: {from} has compacted rows that {to} lacks. {to} needs a store that still has them.\n"
         );
     }
-    if let Some(out) = out {
-        let shown = out.display().to_string();
-        let offers = offers(&chunks);
-        write_new(out, text::write(&offers).as_bytes())?;
-        text += &format!("\nWritten to {shown}: {}.\n", batches(offers.len()));
+    let unanswered = unanswered(&chunks);
+    if let Some(out) = &out {
+        let rows = causally(chunks.into_iter().flatten().collect(), &clock)?;
+        let offers = offers(&rows, max_rows, max_bytes)?;
+        text += &format!("\n{}", write_out(out, &unanswered, &offers)?);
+        text.extend(unanswered.iter().map(|line| format!("{line}\n")));
     }
-    Ok(Answer { text, well: whole })
+    Ok(Answer {
+        text,
+        well: whole && differing.is_empty() && (out.is_none() || unanswered.is_empty()),
+    })
 }
 
-/// A batch for each chunk; more, where a chunk has more rows than a batch takes. A log keeps no answers of policy and
-/// state: each row fits.
-fn offers(chunks: &[Vec<Row>]) -> Vec<Offer> {
-    let fits = |row: &Row| BatchRow {
-        row: row.clone(),
-        verified: true,
-        outcome: Ok(()),
+/// The rows of both logs that have one number and other content, or another fate where both are known.
+fn differing(from: &[Logged], to: &[Logged]) -> String {
+    let shown = |logged: &Logged| {
+        let fate = show::fate(logged.fate);
+        format!("{} ({fate})", text::row(&logged.row))
     };
-    let offer = |rows: &[Row]| Offer {
-        time_ms: None,
-        rows: rows.iter().map(fits).collect(),
-    };
-    let batches = chunks.iter().flat_map(|chunk| chunk.chunks(MAX_BATCH));
-    batches.map(offer).collect()
+    let pairs = from.iter().flat_map(|one| {
+        let same_number =
+            |other: &&Logged| (one.row.actor, one.row.seq) == (other.row.actor, other.row.seq);
+        to.iter().filter(same_number).map(move |other| (one, other))
+    });
+    let differ = pairs.filter(|(one, other)| {
+        let fates = one.fate.zip(other.fate);
+        one.row != other.row || fates.is_some_and(|(one, other)| one != other)
+    });
+    let lines = differ.map(|(one, other)| format!("{}\n{}\n\n", shown(one), shown(other)));
+    lines.collect()
 }
 
-fn batches(count: usize) -> String {
-    match count {
+/// How many rows each chunk has; equal numbers that follow each other once.
+fn lengths(chunks: &[Vec<Logged>]) -> String {
+    let equal = chunks.chunk_by(|one, next| one.len() == next.len());
+    let lengths = equal.map(|chunks| match chunks {
+        [one] => one.len().to_string(),
+        all => format!("{} ({} times)", all.first().map_or(0, Vec::len), all.len()),
+    });
+    lengths.collect::<Vec<_>>().join(", ")
+}
+
+/// Writes batches as text, with comments before them, and says so.
+fn write_out(out: &Path, comments: &[String], offers: &[Offer]) -> Result<String, Error> {
+    let comments = comments.iter().map(|line| format!("# {line}\n"));
+    let text = comments.collect::<String>() + &text::write(offers);
+    let remark = write_new(out, text.as_bytes())?;
+    let batches = match offers.len() {
         1 => "1 batch".to_owned(),
-        _ => format!("{count} batches"),
+        count => format!("{count} batches"),
+    };
+    Ok(format!("Written to {}: {batches}.\n{remark}", name(out)))
+}
+
+/// The rows in an order in which none has to wait for a later one, as far as there is one: those that need nothing beyond
+/// the other store's clock and the rows before them, in the log's order, and so on with what is left. A log is by stamp, and
+/// has the later first of an author's rows with one stamp: in that order a store might have to hold more rows than it can.
+fn causally(mut rows: Vec<Logged>, clock: &VectorClock) -> Result<Vec<Logged>, Refusal> {
+    let mut known: BTreeMap<ActorId, u64> = clock.entries()?.into_iter().collect();
+    let mut ordered = Vec::with_capacity(rows.len());
+    loop {
+        let before = ordered.len();
+        let mut left = Vec::new();
+        for logged in rows {
+            let is_known = |(author, number)| number <= known.get(&author).copied().unwrap_or(0);
+            let ready = needs(&logged.row).all(is_known);
+            if ready {
+                let most = known.entry(logged.row.actor).or_default();
+                *most = logged.row.seq.max(*most);
+                ordered.push(logged);
+            } else {
+                left.push(logged);
+            }
+        }
+        if ordered.len() == before {
+            ordered.append(&mut left);
+            return Ok(ordered);
+        }
+        rows = left;
     }
+}
+
+/// What a peer with this clock lacks, chunk by chunk.
+fn chunks(
+    store: &Store,
+    clock: &VectorClock,
+    max_rows: u64,
+    max_bytes: u64,
+) -> Result<Vec<Vec<Logged>>, Error> {
+    let delta = store.delta(clock)?;
+    let lens = delta.chunk_lens(max_rows, max_bytes)?;
+    let mut log: Vec<Option<Logged>> = logged(store)?.into_iter().map(Some).collect();
+    let mut lacking = delta.positions().iter().map(|position| {
+        let row = log.get_mut(*position).and_then(Option::take);
+        row.ok_or(Refusal::MisfitAnswer)
+    });
+    let chunk = |len| lacking.by_ref().take(len).collect();
+    Ok(lens.into_iter().map(chunk).collect::<Result<_, _>>()?)
+}
+
+/// The rows of which the store does not know what policy and state said. A file cannot say that of a row: they are
+/// written as fitting.
+fn unanswered(chunks: &[Vec<Logged>]) -> Vec<String> {
+    let rows = chunks.iter().flatten();
+    let unanswered = rows.filter(|logged| logged.fate.and_then(outcome).is_none());
+    let line = |Logged { row, fate }: &Logged| {
+        let (row, fate) = (id(row.actor, row.seq), show::fate(*fate));
+        format!("{row} is written as fitting: its fate is {fate}, and its answer is not kept")
+    };
+    unanswered.map(line).collect()
+}
+
+/// Batches of these rows with the answers of policy and state: of at most so many rows, and so many bytes as a chunk's rows
+/// count with, but of one row at least.
+fn offers(rows: &[Logged], max_rows: u64, max_bytes: u64) -> Result<Vec<Offer>, Refusal> {
+    let most = max_rows.clamp(1, MAX_BATCH as u64) as usize;
+    let mut batches: Vec<Vec<BatchRow>> = Vec::new();
+    let mut bytes: u64 = 0;
+    for Logged { row, fate } in rows {
+        let size = (row.signing_bytes()?.len() + row.signature.len() + 16) as u64;
+        bytes = bytes.saturating_add(size);
+        let row = BatchRow {
+            row: row.clone(),
+            verified: true,
+            outcome: fate.and_then(outcome).unwrap_or(Ok(())),
+        };
+        match batches.last_mut() {
+            Some(batch) if batch.len() < most && bytes <= max_bytes => batch.push(row),
+            _ => {
+                batches.push(vec![row]);
+                bytes = size;
+            }
+        }
+    }
+    Ok(batches.into_iter().map(Offer::of).collect())
 }

@@ -2,6 +2,7 @@
 
 use cuwelfra::{Explained, Refusal};
 
+use crate::advice::{by_number, Advice};
 use crate::answer::Answer;
 use crate::error::Error;
 use crate::table::indented;
@@ -38,6 +39,12 @@ fn shown(explained: &Explained) -> String {
         true => String::new(),
         false => format!(": {}", values.join(", ")),
     };
-    let (meaning, advice) = (indented(meaning), indented(advice));
-    format!("{number}, {word}{values}\n{meaning}{advice}")
+    let words = match by_number(*number) {
+        Some(Advice { meaning, advice }) => indented(meaning) + &indented(advice),
+        None => {
+            let advice = format!("No command meets it, only a program. {advice}");
+            indented(meaning) + &indented(&advice)
+        }
+    };
+    format!("{number}, {word}{values}\n{words}")
 }

@@ -6,6 +6,7 @@ use cuwelfra::Store;
 
 use crate::answer::Answer;
 use crate::error::Error;
+use crate::plain::name;
 use crate::show;
 use crate::store::{load, Change};
 use crate::words::{stamp, Words};
@@ -17,10 +18,16 @@ pub fn run(words: Words) -> Result<Answer, Error> {
         [file, word] => {
             let floor = stamp(word.clone())?;
             let mut change = Change::of_existing(file.into())?;
+            let before = change.store.floor()?;
             change.store.set_floor(&floor)?;
-            let answer = shown(&change.store);
-            change.save()?;
-            answer
+            let mut answer = shown(&change.store)?;
+            let file = name(&change.file);
+            let done = match before == change.store.floor()? {
+                true => "a floor is never lowered; left as it was".to_owned(),
+                false => change.save()?,
+            };
+            answer.text += &format!("{file}: {done}.\n");
+            Ok(answer)
         }
         _ => Err(usage),
     }

@@ -21,6 +21,7 @@ use crate::error::Error;
 use crate::words::Words;
 
 const HELP: &str = include_str!("../../help.txt");
+const VERSION: &str = env!("CARGO_PKG_VERSION");
 
 /// A command's name, the words that it takes, as the help writes them, and what it does.
 struct Command(
@@ -30,9 +31,9 @@ struct Command(
 );
 
 const COMMANDS: [Command; 14] = [
-    Command("join", "STORE FILE...", join::run),
+    Command("join", "STORE FILE... [TIMES]", join::run),
     Command("log", "STORE", log::run),
-    Command("held", "STORE", held::run),
+    Command("held", "STORE [--age SPAN] [--time MS]", held::run),
     Command("check", "STORE", check::run),
     Command(
         "delta",
@@ -40,21 +41,30 @@ const COMMANDS: [Command; 14] = [
         delta::run,
     ),
     Command("cutoff", "STORE FRONTIER...", cutoff::run),
-    Command("compact", "STORE STAMP|--cutoff FRONTIER...", compact::run),
+    Command(
+        "compact",
+        "STORE [STAMP] [--dry-run] [--force] [--cutoff FRONTIER...]",
+        compact::run,
+    ),
     Command("floor", "STORE [STAMP]", floor::run),
     Command("explain", "[NUMBER]", explain::run),
     Command("pack", "FILE OUT", pack::run),
     Command("unpack", "FILE...", unpack::run),
-    Command("compare", "FILE...", compare::run),
+    Command("compare", "FILE... [TIMES]", compare::run),
     // What `./run` alone does.
-    Command("example", "STORE FILE...", example::run),
+    Command("example", "STORE FILE... [TIMES]", example::run),
     Command("help", "", help),
 ];
 
 /// Does what the words say.
 pub fn run(words: Vec<OsString>) -> Result<Answer, Error> {
-    if words.iter().any(|word| word == "--help" || word == "-h") {
+    // Behind -- a word is a name.
+    let mut options = words.iter().take_while(|word| *word != "--");
+    if options.clone().any(|word| word == "--help" || word == "-h") {
         return Ok(Answer::well(HELP.to_owned()));
+    }
+    if options.any(|word| word == "--version") {
+        return Ok(Answer::well(format!("cuwelfra {VERSION}\n")));
     }
     let mut words = words.into_iter();
     let name = words.next().ok_or(Error::NoCommand)?;
@@ -62,11 +72,7 @@ pub fn run(words: Vec<OsString>) -> Result<Answer, Error> {
     let Some(Command(name, wanted, run)) = found else {
         return Err(Error::UnknownCommand(name));
     };
-    run(Words {
-        name,
-        wanted,
-        given: words.collect(),
-    })
+    run(Words::new(name, wanted, words.collect()))
 }
 
 fn help(words: Words) -> Result<Answer, Error> {

@@ -3,20 +3,18 @@
 use std::path::Path;
 
 use crate::answer::Answer;
-use crate::desk::{read, unpack};
+use crate::desk::{named, once, read, unpack};
 use crate::error::Error;
+use crate::plain;
 use crate::text::{self, Offer};
 use crate::words::Words;
 
 pub fn run(words: Words) -> Result<Answer, Error> {
-    let usage = words.usage();
-    let files = words.rest()?;
-    if files.is_empty() {
-        return Err(usage);
-    }
-    let offers = files.iter().map(|file| {
-        let file = Path::new(file);
-        unpack(file, &read(file)?)
+    let files = words.some()?;
+    once(&files)?;
+    let offers = files.iter().map(Path::new).map(|file| {
+        let offer = unpack(&read(file)?);
+        offer.map_err(|refused| Error::Batch(plain::name(named(file)), refused))
     });
     let offers: Vec<Offer> = offers.collect::<Result<_, _>>()?;
     Ok(Answer::well(text::write(&offers)))

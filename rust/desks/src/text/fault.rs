@@ -2,6 +2,8 @@
 
 use std::{error, fmt};
 
+use crate::plain::plain;
+
 /// Where a text does not read, and why.
 #[derive(Clone, Debug, PartialEq, Eq)]
 pub struct Unreadable {
@@ -47,7 +49,8 @@ impl fmt::Display for Fault {
             Self::OpenQuote => write!(f, "a double quote is not closed"),
             Self::Escape(part) => write!(
                 f,
-                "`\\{part}` does not begin with \\\", \\\\ or \\x and two hexadecimal digits"
+                "`\\{}` does not begin with \\\", \\\\ or \\x and two hexadecimal digits",
+                plain(part)
             ),
             Self::Words(count) => write!(
                 f,
@@ -55,21 +58,25 @@ impl fmt::Display for Fault {
                  [ANSWER] [unverified] [signature/HEX]"
             ),
             Self::Number { what, bits, word } => {
+                let word = plain(word);
                 write!(f, "`{word}` is no {what}, which is a whole number below 2^{bits}")
             }
             Self::Dependency(word) => write!(
                 f,
-                "`{word}` is no dependency; write AUTHOR:NUMBER, with commas between, or - for none"
+                "`{}` is no dependency; write AUTHOR:NUMBER, with commas between, or - for none",
+                plain(word)
             ),
             Self::Answer(word) => write!(
                 f,
-                "`{word}` is no answer; there are fits, malformed, unknown/TAG, denied, invalid/NUMBER, \
-                 and beside them unverified and signature/HEX"
+                "`{}` is no answer; there are fits, malformed, unknown/TAG, denied, invalid/NUMBER, \
+                 and beside them unverified and signature/HEX",
+                plain(word)
             ),
             Self::Signature(digits) => {
+                let digits = plain(digits);
                 write!(f, "`{digits}` is no signature, which is two hexadecimal digits a byte")
             }
-            Self::Twice(word) => write!(f, "`{word}` says again what a word before it says"),
+            Self::Twice(word) => write!(f, "`{}` says again what a word before it says", plain(word)),
             Self::LateTime => write!(f, "`time` stands before the rows of a batch"),
         }
     }

@@ -17,8 +17,9 @@
 //!   `invalid/NUMBER`. `unverified` marks a row whose signature is bad. Without `signature/HEX` it is empty.
 //!
 //! A comment goes from `#`, where a word could begin, to the end of the line. A blank line or `---` ends a batch; a
-//! line with only a comment does not, and a batch without rows is left out. `time MS` stands before a batch's rows and
-//! is the time of its call and of the calls after it in this file.
+//! line with only a comment does not, and a batch without rows is left out. One of more than 64 rows is cut into several.
+//! `time MS` stands before a batch's rows; where the file is replayed, it is the time of its call and of the calls after
+//! it in this file.
 
 mod fault;
 mod offer;
@@ -29,4 +30,4 @@ mod write;
 pub use fault::Unreadable;
 pub use offer::Offer;
 pub use read::{number, parse, parse_pairs, stamp};
-pub use write::{answer, id, pairs, row, unprinted, write};
+pub use write::{answer, answered, id, line, pairs, row, write};

@@ -2,21 +2,24 @@
 
 use std::str::{self, FromStr};
 
-use cuwelfra::{ActorId, ApplyError, BatchRow, Row, Timestamp};
+use cuwelfra::{ActorId, ApplyError, BatchRow, Row, Timestamp, MAX_BATCH};
 
 use super::fault::{Fault, Unreadable};
 use super::offer::Offer;
 use super::words::{bytes, hex, words};
 
-/// The batches of a text.
+/// The batches of a text. One of more rows than a batch call takes is cut into several.
 pub fn parse(text: &[u8]) -> Result<Vec<Offer>, Unreadable> {
     // Some editors put a mark before the first letter.
     let text = text.strip_prefix(b"\xef\xbb\xbf").unwrap_or(text);
     let mut parser = Parser::default();
     for (i, line) in text.split(|byte| *byte == b'\n').enumerate() {
-        parser
-            .line(line)
-            .map_err(|fault| Unreadable { line: i + 1, fault })?;
+        let number = i + 1;
+        let read = parser.line(number, line);
+        read.map_err(|fault| Unreadable {
+            line: number,
+            fault,
+        })?;
     }
     parser.end_batch();
     Ok(parser.offers)
@@ -28,10 +31,11 @@ struct Parser {
     offers: Vec<Offer>,
     time_ms: Option<u64>,
     rows: Vec<BatchRow>,
+    lines: Vec<usize>,
 }
 
 impl Parser {
-    fn line(&mut self, line: &[u8]) -> Result<(), Fault> {
+    fn line(&mut self, number: usize, line: &[u8]) -> Result<(), Fault> {
         let line = str::from_utf8(line).map_err(|_| Fault::NotText)?;
         let words = words(line)?;
         match words[..] {
@@ -39,7 +43,7 @@ impl Parser {
             [] => {}
             ["---"] => self.end_batch(),
             ["time", _] if !self.rows.is_empty() => return Err(Fault::LateTime),
-            ["time", ms] => self.time_ms = Some(number("time", ms)?),
+            ["time", ms] => self.time_ms = Some(self::number("time", ms)?),
             [wall, counter, author, seq, deps, payload, ref said @ ..] if said.len() <= 3 => {
                 let (counter, by) = match counter.split_once('/') {
                     Some((counter, by)) => (counter, by),
@@ -48,8 +52,8 @@ impl Parser {
                 let said = said.iter().try_fold(Said::default(), Said::and)?;
                 let row = Row {
                     timestamp: stamp(wall, counter, by)?,
-                    actor: ActorId(number("author", author)?),
-                    seq: number("sequence", seq)?,
+                    actor: ActorId(self::number("author", author)?),
+                    seq: self::number("sequence", seq)?,
                     deps: dependencies(deps)?,
                     payload: bytes(payload)?,
                     signature: said.signature.unwrap_or_default(),
@@ -59,6 +63,7 @@ impl Parser {
                     verified: !said.unverified,
                     outcome: said.outcome.unwrap_or(Ok(())),
                 });
+                self.lines.push(number);
             }
             _ => return Err(Fault::Words(words.len())),
         }
@@ -66,12 +71,12 @@ impl Parser {
     }
 
     fn end_batch(&mut self) {
-        if !self.rows.is_empty() {
-            self.offers.push(Offer {
-                time_ms: self.time_ms,
-                rows: std::mem::take(&mut self.rows),
-            });
-        }
+        let offer = Offer {
+            time_ms: self.time_ms,
+            rows: std::mem::take(&mut self.rows),
+            lines: std::mem::take(&mut self.lines),
+        };
+        self.offers.extend(offer.cut(MAX_BATCH));
     }
 }
 

@@ -1,8 +1,9 @@
 //! Batches into text.
 
-use cuwelfra::{ActorId, ApplyError, BatchRow, Row};
+use cuwelfra::{ActorId, ApplyError, BatchRow, Outcome, Row};
 
 use super::offer::Offer;
+use crate::plain::quoted;
 use crate::table::or_dash;
 
 /// The text of batches, which reads as them: every row, and every time that is not the one before it. A batch without
@@ -20,15 +21,22 @@ pub fn write(offers: &[Offer]) -> String {
     batches.collect::<Vec<_>>().join("---\n")
 }
 
-fn line(row: &BatchRow) -> String {
-    let mut line = self::row(&row.row);
-    if let Err(error) = row.outcome {
-        line += &format!("  {}", answer(error));
+/// A row with what comes with it in its batch.
+pub fn line(row: &BatchRow) -> String {
+    let line = answered(&row.row, Some(row.outcome));
+    match row.verified {
+        true => line,
+        false => line + "  unverified",
     }
-    if !row.verified {
-        line += "  unverified";
+}
+
+/// A row with the answer of policy and state, which is left out where the row fits or nothing is known.
+pub fn answered(row: &Row, outcome: Option<Outcome>) -> String {
+    let line = self::row(row);
+    match outcome {
+        Some(Err(error)) => format!("{line}  {}", answer(error)),
+        _ => line,
     }
-    line
 }
 
 /// A row without what comes with it in its batch.
@@ -80,39 +88,11 @@ pub fn answer(error: ApplyError) -> String {
     }
 }
 
-/// A payload between quotes: what is no printed letter goes by its bytes.
-fn quoted(payload: &[u8]) -> String {
-    let mut quoted = "\"".to_owned();
-    for chunk in payload.utf8_chunks() {
-        for letter in chunk.valid().chars() {
-            match letter {
-                '"' | '\\' => quoted.extend(['\\', letter]),
-                _ if unprinted(letter) => {
-                    escape(&mut quoted, letter.encode_utf8(&mut [0; 4]).as_bytes())
-                }
-                _ => quoted.push(letter),
-            }
-        }
-        escape(&mut quoted, chunk.invalid());
-    }
-    quoted.push('"');
-    quoted
-}
-
-fn escape(quoted: &mut String, bytes: &[u8]) {
-    quoted.extend(bytes.iter().map(|byte| format!("\\x{byte:02x}")));
-}
-
-/// Letters that end a line or change the direction of what follows, and control characters.
-pub fn unprinted(letter: char) -> bool {
-    let turns = matches!(letter, '\u{200e}'..='\u{200f}' | '\u{2028}'..='\u{202e}' | '\u{2066}'..='\u{2069}');
-    letter.is_control() || turns
-}
-
 #[cfg(test)]
 mod tests {
     use super::*;
-    use crate::desk::{pack, unpack};
+    use crate::desk::unpack;
+    use crate::refused::pack;
     use crate::text::parse;
     use cuwelfra::{ActorId, Timestamp, MAX_BATCH};
 
@@ -177,6 +157,10 @@ mod tests {
         }
     }
 
+    fn said(offers: &[Offer]) -> Vec<(Option<u64>, &[BatchRow])> {
+        offers.iter().map(Offer::said).collect()
+    }
+
     /// Rows to bytes, to rows, to text, to rows.
     #[test]
     fn what_is_written_reads_as_it_was() {
@@ -184,12 +168,13 @@ mod tests {
         for _ in 0..300 {
             let rows = 1 + numbers.below(MAX_BATCH as u64);
             let rows: Vec<BatchRow> = (0..rows).map(|_| numbers.row()).collect();
-            let batch = pack(&rows).expect("rows that fit");
-            let offer = unpack("file".as_ref(), batch.bytes()).expect("a batch that reads");
-            assert_eq!(offer.rows, rows);
+            let offer = Offer::of(rows);
+            let batch = pack(&offer).expect("rows that fit");
+            assert_eq!(unpack(batch.bytes()).expect("a batch that reads"), offer);
             let text = write(std::slice::from_ref(&offer));
-            assert_eq!(text.lines().count(), rows.len());
-            assert_eq!(parse(text.as_bytes()).expect("a text that reads"), [offer]);
+            assert_eq!(text.lines().count(), offer.rows.len());
+            let read = parse(text.as_bytes()).expect("a text that reads");
+            assert_eq!(said(&read), [offer.said()]);
         }
     }
 
@@ -209,7 +194,8 @@ mod tests {
                 let mut text = desk.to_vec();
                 text[at] = byte;
                 let Ok(offers) = parse(&text) else { continue };
-                assert_eq!(parse(write(&offers).as_bytes()), Ok(offers), "{at}, {byte}");
+                let again = parse(write(&offers).as_bytes()).expect("a text that reads");
+                assert_eq!(said(&again), said(&offers), "{at}, {byte}");
                 read += 1;
             }
         }
@@ -224,18 +210,6 @@ mod tests {
         let offers = parse(text.as_bytes()).expect("a text that reads");
         assert_eq!(write(&offers), text);
         assert_eq!(write(&[]), "");
-        let none = Offer {
-            time_ms: Some(7),
-            rows: Vec::new(),
-        };
-        assert_eq!(write(&[none]), "");
-    }
-
-    #[test]
-    fn payloads_are_one_line_and_hide_nothing() {
-        let bow = "Bügel = \"bow\"".as_bytes();
-        assert_eq!(quoted(bow), r#""Bügel = \"bow\"""#);
-        assert_eq!(quoted(b"a\\b\nc\xff"), r#""a\\b\x0ac\xff""#);
-        assert_eq!(quoted("\u{202e}x".as_bytes()), r#""\xe2\x80\xaex""#);
+        assert_eq!(write(&[Offer::of(Vec::new())]), "");
     }
 }
