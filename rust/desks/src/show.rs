@@ -118,6 +118,11 @@ pub fn fate(fate: Option<Fate>) -> String {
     }
 }
 
+/// A logged row as a file has it, with its fate behind it.
+pub fn with_fate(logged: &Logged) -> String {
+    format!("{} ({})", text::row(&logged.row), fate(logged.fate))
+}
+
 /// Rows that waited and do so no more, each as a line of a file, so that it can be joined again.
 fn gone(told: &[Told], title: &str, kind: fn(&News) -> Option<&Waited>) -> String {
     let lines = notices(told).filter_map(|(batch, Notice { row, news })| {

@@ -91,10 +91,7 @@ pub fn verdict(differences: &[String], view: &View) -> String {
 
 /// Where two stores differ: logs and held rows row by row, by author, sequence, content and answer, and the clocks.
 pub fn differences(first: &View, second: &View) -> Vec<String> {
-    let mut differences = rows_apart("log", &first.log, &second.log, |logged| {
-        let fate = show::fate(logged.fate);
-        format!("{} ({fate})", text::row(&logged.row))
-    });
+    let mut differences = rows_apart("log", &first.log, &second.log, show::with_fate);
     differences.extend(rows_apart(
         "held rows",
         &first.held,

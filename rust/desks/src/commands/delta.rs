@@ -62,10 +62,6 @@ pub fn run(mut words: Words) -> Result<Answer, Error> {
 
 /// The rows of both logs that have one number and other content, or another fate where both are known.
 fn differing(from: &[Logged], to: &[Logged]) -> String {
-    let shown = |logged: &Logged| {
-        let fate = show::fate(logged.fate);
-        format!("{} ({fate})", text::row(&logged.row))
-    };
     let pairs = from.iter().flat_map(|one| {
         let same_number =
             |other: &&Logged| (one.row.actor, one.row.seq) == (other.row.actor, other.row.seq);
@@ -75,7 +71,10 @@ fn differing(from: &[Logged], to: &[Logged]) -> String {
         let fates = one.fate.zip(other.fate);
         one.row != other.row || fates.is_some_and(|(one, other)| one != other)
     });
-    let lines = differ.map(|(one, other)| format!("{}\n{}\n\n", shown(one), shown(other)));
+    let lines = differ.map(|(one, other)| {
+        let (one, other) = (show::with_fate(one), show::with_fate(other));
+        format!("{one}\n{other}\n\n")
+    });
     lines.collect()
 }
 
