@@ -28,6 +28,7 @@ HAS_WORDS(cuwelfra_stamp_told, 7);
 HAS_WORDS(cuwelfra_lookup_told, 6);
 HAS_WORDS(cuwelfra_op_told, 5);
 HAS_WORDS(cuwelfra_merge_told, 10);
+HAS_WORDS(cuwelfra_prepared_told, 43);
 
 static int checks = 0;
 static int failures = 0;
@@ -96,7 +97,7 @@ static void check_word(int line, uint64_t number, const char *wanted)
 static void versions(void)
 {
     IS(cuwelfra_abi(), CUWELFRA_ABI);
-    IS(cuwelfra_abi_1(), CUWELFRA_ABI);
+    IS(cuwelfra_abi_2(), CUWELFRA_ABI);
     IS(CUWELFRA_ABI_FITS(), 1);
 }
 
@@ -106,6 +107,7 @@ static void words(void)
     SAYS(CUWELFRA_REFUSED_UNSOUND_STORE, "unsound store");
     SAYS(CUWELFRA_REFUSED_HELD_BYTES, "held bytes");
     SAYS(CUWELFRA_REFUSED_TRAILING, "trailing");
+    SAYS(CUWELFRA_REFUSED_OTHER_CAUSES, "other causes");
     SAYS(UINT64_MAX, "unknown");
 }
 
@@ -738,6 +740,77 @@ static void compacting(void)
     IS(cuwelfra_can_serve(AREAS(desk), clock, sizeof clock).number, 0);
 }
 
+/* ---- Rows of the desk's own */
+
+/* What author 1 signs: its second row, which depends on all that is logged at the desk. */
+static const uint8_t own_row[] = {
+    0xF8, 0x55, 0, 1,    /* stamp: wall time 11,000, counter 0, author 1 */
+    1, 2,                /* author 1, sequence 2 */
+    3, 1, 1, 2, 1, 3, 1, /* three dependencies: row 1 of authors 1, 2 and 3 */
+    3, 'R', 'a', 'd',    /* payload */
+};
+
+static uint8_t to_sign[CUWELFRA_UNSIGNED_BYTES];
+
+/* Prepares a row of author 1 at 11,000, with a clock at 10,000/3 and the desk's clock. */
+static cuwelfra_prepared_told prepare(uint64_t issued, const uint8_t *payload, size_t payload_len)
+{
+    uint8_t clock[CUWELFRA_CLOCK_BYTES];
+    ACCEPTED(cuwelfra_log_clock(AREAS(desk), clock, sizeof clock));
+    memset(to_sign, 0x5A, sizeof to_sign);
+    return cuwelfra_prepare(1, 10000, 3, 60000, 11000, issued, payload, payload_len, clock, sizeof clock, to_sign,
+                            sizeof to_sign);
+}
+
+static void rows_of_its_own(void)
+{
+    static const uint8_t term[] = {'R', 'a', 'd'};
+    static const uint8_t too_long[257];
+    static const uint8_t sig[] = {0xC6};
+    cuwelfra_prepared_told prepared;
+    cuwelfra_lookup_told found;
+
+    make_desk();
+    prepared = prepare(1, term, sizeof term);
+    ACCEPTED(prepared.told);
+    IS(prepared.wall_time, 11000);
+    IS(prepared.logical_counter, 0);
+    IS(prepared.actor_id, 1);
+    IS(prepared.sequence, 2);
+    IS(prepared.deps, 3);
+    IS(prepared.dep_authors[2], 3);
+    IS(prepared.dep_numbers[2], 1);
+    IS(prepared.dep_authors[3], 0);
+    IS(prepared.len, sizeof own_row);
+    AT(prepared, 11000, 0);
+    STARTS(to_sign, own_row);
+    ALL_FROM(to_sign, sizeof own_row, 0x5A);
+
+    /* The server signs the bytes. A signature of 65 bytes is 4. */
+    REFUSED(cuwelfra_seal(AREAS(desk), to_sign, prepared.len, too_long, 65), OVER_CAPACITY, 0, 0);
+    ACCEPTED(cuwelfra_seal(AREAS(desk), to_sign, prepared.len, sig, sizeof sig));
+    IS(cuwelfra_log_len(AREAS(desk)).number, 4);
+    found = cuwelfra_lookup(AREAS(desk), 1, 2);
+    IS(found.place, CUWELFRA_PLACE_LOGGED);
+    IS(found.slot, 3);
+    STARTS(desk.log + 3 * CUWELFRA_SLOT_BYTES + 640, sig);
+
+    /* Once more: the author's number in the log's clock is 2 by now. */
+    before = desk;
+    REFUSED(cuwelfra_seal(AREAS(desk), to_sign, prepared.len, sig, sizeof sig), OTHER_CAUSES, 0, 0);
+    STARTS(desk.log, before.log);
+    STARTS(desk.head, before.head);
+
+    /* Refused: nothing is written, and the clock comes back as it was. */
+    prepared = prepare(UINT64_MAX, term, sizeof term);
+    REFUSED(prepared.told, SEQUENCE_EXHAUSTED, 0, 0);
+    IS(prepared.sequence, 0);
+    IS(prepared.len, 0);
+    AT(prepared, 10000, 3);
+    ALL_FROM(to_sign, 0, 0x5A);
+    REFUSED(prepare(1, too_long, sizeof too_long).told, OPERATION_TOO_LARGE, 0, 0);
+}
+
 /* ---- What a peer lacks, and the record of a peer */
 
 static void deltas(void)
@@ -838,6 +911,7 @@ int main(void)
     rows_and_slots();
     inserting_and_restoring();
     compacting();
+    rows_of_its_own();
     deltas();
     peers();
     printf("%d checks, %d failed\n", checks, failures);

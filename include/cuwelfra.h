@@ -23,15 +23,15 @@ extern "C" {
 
 /* The number of the interface that this header declares. It is raised at each change of a call's signature, a struct,
    an area's layout or a size. */
-#define CUWELFRA_ABI 1
-/* 1 where the linked library has this number. A library that has another lacks the name cuwelfra_abi_1, so that a
+#define CUWELFRA_ABI 2
+/* 1 where the linked library has this number. A library that has another lacks the name cuwelfra_abi_2, so that a
    program that says this does not link with it. */
-#define CUWELFRA_ABI_FITS() (cuwelfra_abi_1() == CUWELFRA_ABI && cuwelfra_abi() == CUWELFRA_ABI)
+#define CUWELFRA_ABI_FITS() (cuwelfra_abi_2() == CUWELFRA_ABI && cuwelfra_abi() == CUWELFRA_ABI)
 
 /* The linked library's number. Refuses nothing. */
 uint64_t cuwelfra_abi(void);
 /* The same, by a name that has the number in it. */
-uint64_t cuwelfra_abi_1(void);
+uint64_t cuwelfra_abi_2(void);
 
 /* ---- Numbers by name */
 
@@ -42,12 +42,12 @@ uint64_t cuwelfra_abi_1(void);
     X(1, UNSOUND_STORE, "unsound store")                                                                              \
     /* below the size that the call names */                                                                          \
     X(2, SHORT_AREA, "short area")                                                                                    \
-    /* a batch that is cut short or has bytes left over, a number above its bits, authors that do not strictly rise,  \
-       closing bytes that are none */                                                                                 \
+    /* a batch, or bytes to seal, cut short or with bytes left over, a number above its bits, authors that do not     \
+       strictly rise, closing bytes that are none */                                                                  \
     X(3, UNREADABLE, "unreadable")                                                                                    \
-    /* a size in a batch, or a setting, above its greatest */                                                         \
+    /* a size in a batch or in what is sealed, or a setting, above its greatest */                                    \
     X(4, OVER_CAPACITY, "over capacity")                                                                              \
-    /* 5 to 13 are told of a row of a batch */                                                                        \
+    /* 5 to 13 are told of a row of a batch, 5 and 6 of one that is sealed too */                                     \
     X(5, ZERO_SEQUENCE, "zero sequence")                                                                              \
     X(6, FOREIGN_STAMP, "foreign stamp")                                                                              \
     X(7, SPENT_COUNTER, "spent counter")                                                                              \
@@ -71,7 +71,12 @@ uint64_t cuwelfra_abi_1(void);
     X(22, TRUNCATED, "truncated")                                                                                     \
     X(23, OVERFLOW, "overflow")                                                                                       \
     X(24, TOO_LARGE, "too large")                                                                                     \
-    X(25, TRAILING, "trailing")
+    X(25, TRAILING, "trailing")                                                                                       \
+    /* 26 and 27 are told in preparing: a payload above 256 bytes or a log's clock above 16 authors; no next sequence */\
+    X(26, OPERATION_TOO_LARGE, "operation too large")                                                                 \
+    X(27, SEQUENCE_EXHAUSTED, "sequence exhausted")                                                                   \
+    /* told in sealing: dependencies that are not the log's clock */                                                  \
+    X(28, OTHER_CAUSES, "other causes")
 
 #define CUWELFRA_NAMED(number, name, word) CUWELFRA_REFUSED_##name = number,
 /* CUWELFRA_REFUSED_UNSOUND_STORE is 1, and so on. */
@@ -235,6 +240,23 @@ typedef struct {
     uint64_t expired;
     uint64_t dropped;
 } cuwelfra_merge_told;
+
+/* A row to sign: its stamp, its sequence, how many dependencies it has, these, and how many bytes of output are to be
+   signed. Places behind the count are 0. Refused: all of that is 0. last_*: the hybrid clock moved on, as handed in when
+   refused. */
+typedef struct {
+    cuwelfra_told told;
+    uint64_t wall_time;
+    uint64_t logical_counter;
+    uint64_t actor_id;
+    uint64_t sequence;
+    uint64_t deps;
+    uint64_t dep_authors[16];
+    uint64_t dep_numbers[16];
+    size_t len;
+    uint64_t last_wall;
+    uint64_t last_counter;
+} cuwelfra_prepared_told;
 
 /* ---- Bytes
    A varint is unsigned LEB128: written in its shortest form, read in any form of at most ten bytes that fits 64 bits.
@@ -426,6 +448,35 @@ cuwelfra_merge_told cuwelfra_apply_remote_ops(uint64_t max_pending, uint64_t max
    stale. Refusals as for the other calls on a store. */
 cuwelfra_told cuwelfra_set_floor(const uint8_t *log, size_t log_len, const uint8_t *held, size_t held_len, uint8_t *head,
                                  size_t head_len, uint64_t wall_time, uint32_t logical_counter, uint64_t actor_id);
+
+/* ---- Rows of the desk's own
+   A row is prepared, the server signs its bytes, then it is sealed. */
+
+/* The most bytes that are signed of a row. */
+#define CUWELFRA_UNSIGNED_BYTES 624
+
+/* Prepares a row of an author, whose hybrid clock goes in by value: a new stamp at time_ms; as sequence one more than the
+   greater of the author's number in clock and issued, the number last issued; as dependencies the clock area clock of
+   CUWELFRA_CLOCK_BYTES, which is the log's (cuwelfra_log_clock). Writes the bytes to sign at the start of output, which
+   has at least the bytes to sign, CUWELFRA_UNSIGNED_BYTES always do; later bytes stay. max_drift_ms is the hybrid clock's
+   and plays no part in preparing. Keep the clock that comes back, and never put it back to an older one.
+   26 for a payload above 256 bytes, or a count above 16 in the first 8 bytes of clock; 2 and 1 for clock; 19; 27 where
+   there is no next sequence; 2 for output. */
+cuwelfra_prepared_told cuwelfra_prepare(uint64_t author, uint64_t last_wall, uint32_t last_counter,
+                                        uint64_t max_drift_ms, uint64_t time_ms, uint64_t issued,
+                                        const uint8_t *payload, size_t payload_len, const uint8_t *clock,
+                                        size_t clock_len, uint8_t *output, size_t output_len);
+/* Logs the row of these bytes with its signature, as cuwelfra_insert does: held rows stay, and no fate is told. A batch,
+   even one without rows, then logs what waited for it. Save the store, and the number last issued and the hybrid clock
+   beside it, before the row goes out: else a crash gives its number to another content.
+   Hand in exactly the bytes of cuwelfra_prepare: another spelling of a number is taken too, and the signature then fails
+   elsewhere.
+   2 for the store, 1; 3 and 4 by the first fault in bytes, 3 for bytes left over; 4 for a signature above 64 bytes; 5; 6;
+   28 where the dependencies are not the store's clock, pair for pair: look whether the row is logged already
+   (cuwelfra_lookup), else prepare again; 17, 18. */
+cuwelfra_told cuwelfra_seal(uint8_t *log, size_t log_len, const uint8_t *held, size_t held_len, uint8_t *head,
+                            size_t head_len, const uint8_t *bytes, size_t bytes_len, const uint8_t *signature,
+                            size_t signature_len);
 
 /* ---- Peers
    A peer area, in words: id, state, remote clock (65), last_seen, last_ping, outstanding count and 8 nonces, answered

@@ -41,7 +41,7 @@ pub enum Updated {
 }
 
 // The greater of two numbers.
-fn greater(a: u64, b: u64) -> u64
+pub fn greater(a: u64, b: u64) -> u64
     ensures { λ r. ⌜ r ≡ greater a b ⌝ }
 {
     if a < b {

@@ -6,3 +6,4 @@ pub mod Vectors
 pub mod Stores
 pub mod Peers
 pub mod Batches
+pub mod Desks

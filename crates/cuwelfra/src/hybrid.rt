@@ -36,7 +36,12 @@ pub struct UpdatedTold {
     pub last_counter: u64,
 }
 
-fn clock_by(actor: u64, last_wall: u64, last_counter: u32, max_drift_ms: u64) -> HybridClock
+pub(crate) fn clock_by(
+    actor: u64,
+    last_wall: u64,
+    last_counter: u32,
+    max_drift_ms: u64,
+) -> HybridClock
     ensures { λ r. ⌜ r ≡ clockBy actor «last_wall» «last_counter» «max_drift_ms» ⌝ }
 {
     HybridClock {

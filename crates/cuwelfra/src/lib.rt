@@ -3,6 +3,7 @@ pub mod abi; // the number of this interface
 pub mod batches; // the batch call and the floor
 pub mod bytes; // varints, readers, writers, envelopes
 pub mod changes; // insertion, restoring, compaction
+pub mod desk; // a desk's own rows
 pub mod hybrid; // stamps and hybrid clocks
 pub mod outgoing; // cutoff, delta and chunks
 pub mod peers; // the record of a peer

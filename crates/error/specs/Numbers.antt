@@ -1,8 +1,7 @@
--- Document 01's table of refusals, a line each: the number, then the values that it carries.
+-- Document 01's table of refusals and those of document 02, a line each: the number, then the values that it carries.
 use Prim.Native.Nat.{ℕ}
-use Rattle.stubs.specs.declared.ActorId.{ActorId}
 use Rattle.error.specs.declared.Refusal.{Refusal}
-use Rattle.error.specs.declared.Refusal.the-variants.{UnsoundStore, ShortArea, Unreadable, OverCapacity, ZeroSequence, ForeignStamp, SpentCounter, PayloadTooLarge, TooManyCauses, OwnFuture, AheadOfTime, BadSignature, Conflict, HeldOverflow, HeldBytes, AuthorOverflow, LogFull, AuthorsFull, CounterOverflow, RemoteAhead, UnaskedPong, Truncated, VarintOverflow, TooLarge, TrailingBytes}
+use Rattle.error.specs.declared.Refusal.the-variants.{UnsoundStore, ShortArea, Unreadable, OverCapacity, ZeroSequence, ForeignStamp, SpentCounter, PayloadTooLarge, TooManyCauses, OwnFuture, AheadOfTime, BadSignature, Conflict, HeldOverflow, HeldBytes, AuthorOverflow, LogFull, AuthorsFull, CounterOverflow, RemoteAhead, UnaskedPong, Truncated, VarintOverflow, TooLarge, TrailingBytes, OperationTooLarge, SequenceExhausted, OtherCauses}
 use Rattle.error.specs.declared.Told.{Told}
 
 -- a number and two values
@@ -37,3 +36,9 @@ toldOf Truncated = told 22 0 0
 toldOf VarintOverflow = told 23 0 0
 toldOf TooLarge = told 24 0 0
 toldOf TrailingBytes = told 25 0 0
+-- 02: "26 when the payload is above 256 bytes or the log's clock above 16 authors"
+toldOf OperationTooLarge = told 26 0 0
+-- 02: "27 when the next sequence cannot be formed"
+toldOf SequenceExhausted = told 27 0 0
+-- 02: "28 when the row's dependencies are not the log's clock, pair for pair"
+toldOf OtherCauses = told 28 0 0

@@ -1,9 +1,9 @@
-// From src/error.rs: every refusal of document 01, with the values that it carries.
+// From src/error.rs: every refusal of documents 01 and 02, with the values that it carries.
 use stubs::ActorId;
 ghost use mathlib.Core.Path.{_≡_};
 ghost use Rattle.error.specs.Numbers.{toldOf};
 
-// One variant for each numbered refusal. The comment gives document 01's number and word.
+// One variant for each numbered refusal. The comment gives number and word.
 pub enum Refusal {
     // 1 unsound store
     UnsoundStore,
@@ -55,9 +55,15 @@ pub enum Refusal {
     TooLarge,
     // 25 trailing
     TrailingBytes,
+    // 26 operation too large
+    OperationTooLarge,
+    // 27 sequence exhausted
+    SequenceExhausted,
+    // 28 other causes
+    OtherCauses,
 }
 
-// Document 01's number of a refusal.
+// The documents' number of a refusal.
 pub fn number(r: Refusal) -> u64
     ensures { λ n. ⌜ n ≡ toldOf r .number ⌝ }
 {
@@ -90,6 +96,9 @@ pub fn number(r: Refusal) -> u64
         Refusal::VarintOverflow => 23,
         Refusal::TooLarge => 24,
         Refusal::TrailingBytes => 25,
+        Refusal::OperationTooLarge => 26,
+        Refusal::SequenceExhausted => 27,
+        Refusal::OtherCauses => 28,
     }
 }
 
@@ -126,6 +135,9 @@ pub fn first(r: Refusal) -> u64
         Refusal::VarintOverflow => 0,
         Refusal::TooLarge => 0,
         Refusal::TrailingBytes => 0,
+        Refusal::OperationTooLarge => 0,
+        Refusal::SequenceExhausted => 0,
+        Refusal::OtherCauses => 0,
     }
 }
 
@@ -162,6 +174,9 @@ pub fn second(r: Refusal) -> u64
         Refusal::VarintOverflow => 0,
         Refusal::TooLarge => 0,
         Refusal::TrailingBytes => 0,
+        Refusal::OperationTooLarge => 0,
+        Refusal::SequenceExhausted => 0,
+        Refusal::OtherCauses => 0,
     }
 }
 

@@ -1,9 +1,9 @@
 -- Clocks: an author's next number, entries above 0, and that such clocks are equal where they tell the same of every author.
-use Prim.Native.Nat.{ℕ, suc, _<_}
+use Prim.Native.Nat.{ℕ, suc, _≤_, _<_}
 use mathlib.Core.Path.{_≡_, refl, sym, _∙_, ap}
 use mathlib.Core.Logic.{_⊎_, inl, inr}
 use mathlib.Core.Bool.{Bool, true, false}
-use mathlib.Core.List.{List, [], _∷_, List·Memᴰ, List·Memᴰ·head, List·Memᴰ·tail, List·Memᴰ·cases-cons}
+use mathlib.Core.List.{List, [], _∷_, List·Memᴰ, List·Memᴰ·head, List·Memᴰ·tail, List·Memᴰ·not-nil, List·Memᴰ·cases-cons}
 use native.Mathlib.Omega.{arith}
 use lib.Dec.{eqb, ltb}
 use borrow.Author.Tests.{eq-eqb, ne-eqb, lt-ltb}
@@ -88,3 +88,21 @@ clock-unique (Rises.more {a = a} {n = n} {es = es} h r) (Rises.more {a = b} {n =
       | level l ↦ absent x (omega arith) r ∙ sym (absent x (omega arith) t)
       | above l ↦ sym (get-tail a n x es (omega arith)) ∙ f x ∙ get-tail b m x fs (omega arith)
     ]
+
+-- ---- an entry of a clock is what it tells of its author
+
+rises-low : {lo : ℕ} {es : List (ℕ × ℕ)} (a n : ℕ) → Rises lo es → List·Memᴰ (a, n) es → lo ≤ a
+rises-low a n Rises.none m = absurd (List·Memᴰ·not-nil m)
+rises-low a n (Rises.more {a = b} {n = k} h r) m = elim (List·Memᴰ·cases-cons m) [
+  | inl e ↦
+      let q : a ≡ b = ap (λ (z : ℕ × ℕ). z .0) e in
+      omega arith
+  | inr j ↦ omega (arith, rises-low a n r j)
+]
+
+pub get-member : {lo : ℕ} {es : List (ℕ × ℕ)} (a n : ℕ) → Rises lo es → List·Memᴰ (a, n) es → get es a ≡ n
+get-member a n Rises.none m = absurd (List·Memᴰ·not-nil m)
+get-member a n (Rises.more {a = b} {n = k} {es = es} h r) m = elim (List·Memᴰ·cases-cons m) [
+  | inl e ↦ get-head b k a es (sym (ap (λ (z : ℕ × ℕ). z .0) e)) ∙ sym (ap (λ (z : ℕ × ℕ). z .1) e)
+  | inr j ↦ get-tail b k a es (omega (arith, rises-low a n r j)) ∙ get-member a n r j
+]

@@ -1,16 +1,23 @@
--- Demand 3 of document 01, "Call lists and fair offers", for two whole lists of calls over bytes. `Demand3` and all that it names stand in
--- specs/Offers.antt; sentence by sentence:
+-- Demand 3 of document 01, "Call lists and fair offers", with the sealings of document 02, ticket 1, for two whole lists of calls over bytes. `Demand3` and all
+-- that it names stand in specs/Offers.antt; sentence by sentence:
 --
 -- "A call list is any list of batch calls and floor settings on one store, refused ones included"           Call; the lists cs₁ and cs₂
 -- "It starts from an empty store: no row logged or held, no number in the clock, no watermark"              Empty a₁, Empty a₂; any floor
--- "Each call gets the store as the last one returned or left it, and nothing else writes that store"        runCalls, by batchCall and setFloorCall
+-- "Each call gets the store as the last one returned or left it, and nothing else writes that store"        runCalls, by batchCall, setFloorCall and sealCall
 -- "batch, settings, time, floor and the other areas are any at all"                                         AllGiven: a batch's bytes are bytes, the time
 --                                                                                                           and a stamp's numbers fit their widths
 -- "A row is offered to a store when an accepted batch of its list holds it"                                 offered a₁ cs₁, offered a₂ cs₂
 -- "Content is what step 2 compares; equal author, sequence and content make one row"                        equality of rows: one-row in RowContent
 -- "fair when no author and sequence is offered with two contents, in one store or across both"              OneContent of both lists' offers
 -- "within each list the times of accepted batches span at most the least pending age among those batches"   Spans (accepted a₁ cs₁), and of a₂, cs₂
--- "Causal listing: a list of rows offered to the store, not necessarily all, without repeats, each its
+-- 02: "A desk's own row, sealed as prepared, counts as offered to its store if neither it nor a row
+-- depending on it or later by its author was offered there before sealing, and the number last issued is
+-- the author's number in that store's log clock at sealing, 0 if absent"                                     Own, with SealedAsPrepared; offered
+-- 02: "In a call list of demand 3 such a sealing, or a refused one, may stand beside batch calls and floor
+-- settings, and no other sealing may"                                                                       AllMayStand a₁ [] cs₁, and of a₂, cs₂. That it asks no
+--                                                                                                           more than this: own-may-stand and refused-may-stand
+--                                                                                                           in OwnRows
+-- 01: "Causal listing: a list of rows offered to the store, not necessarily all, without repeats, each its
 -- author's next number from 1, each dependency at most the number of that author's rows before it"          CausalListing
 -- the log holds exactly the rows that a causal listing ends in, in one order; the clock is the log's; the
 -- held rows are the other offered rows, in one order                                                        Follows, of each store
@@ -26,7 +33,7 @@ use Rattle.row.specs.Rows.{wordPairs}
 use Rattle.log.specs.Store.{derive, neverFalls, sameEntries, heldRise, noTwice, marksRise, floorOk, clockOk, rules}
 use Rattle.log.specs.Areas.{Areas, longEnough, writeStore}
 use Rattle.log.proofs.store.Encoding.{read-write}
-use Rattle.merging.specs.Offers.{Call, Empty, runCalls, offered, accepted, AllGiven, Demand3}
+use Rattle.merging.specs.Offers.{Call, Empty, runCalls, offered, accepted, AllGiven, AllMayStand, Demand3}
 use Rattle.merging.specs.Group.{emptyStore}
 use Rattle.merging.proofs.StoreRuns.{Run, good, one-part}
 use Rattle.merging.proofs.StoreAgreement.{follows, agree}
@@ -34,15 +41,15 @@ use Rattle.merging.proofs.AreasToStores.{Reaches, after-calls}
 use Rattle.words.specs.Lists.{all}
 
 -- one list of calls: the store that the areas hold at its end, and the run that led there
-reached : (a : Areas) (cs : List Call) → AllGiven cs → Empty a → Reaches (runCalls a cs) (offered a cs) (accepted a cs)
-reached a cs given empty =
-    after-calls cs given a [] []
+reached : (a : Areas) (cs : List Call) → AllGiven cs → AllMayStand a [] cs → Empty a → Reaches (runCalls a cs) (offered a cs) (accepted a cs)
+reached a cs given may empty =
+    after-calls cs given a [] [] may
     (record { store = empty .store; holds = empty .holds; run = Run.start (empty .log) (empty .held) (empty .clock) })
 
 pub convergence : Demand3
-convergence a₁ a₂ cs₁ cs₂ given₁ given₂ empty₁ empty₂ one spans₁ spans₂ =
-    let r₁ = reached a₁ cs₁ given₁ empty₁ in
-    let r₂ = reached a₂ cs₂ given₂ empty₂ in
+convergence a₁ a₂ cs₁ cs₂ given₁ given₂ empty₁ empty₂ may₁ may₂ one spans₁ spans₂ =
+    let r₁ = reached a₁ cs₁ given₁ may₁ empty₁ in
+    let r₂ = reached a₂ cs₂ given₂ may₂ empty₂ in
     let g₁ = good (r₁ .run) (one-part (λ y m. Memᴰ·append-left (offered a₂ cs₂) m) one) spans₁ in
     let g₂ = good (r₂ .run) (one-part (λ y m. Memᴰ·append-right (offered a₁ cs₁) m) one) spans₂ in
     let f₁ = follows (offered a₁ cs₁) (accepted a₁ cs₁) (r₁ .store) g₁ in

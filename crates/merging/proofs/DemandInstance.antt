@@ -1,38 +1,50 @@
--- Demand 3 on two lists of calls over bytes, so that nobody need believe that its hypotheses can be met. Four rows come in two orders; one can't be
--- logged and stays held; one call is refused, and one sets the floor.
+-- Demand 3 on two lists of calls over bytes, so that nobody need believe that its hypotheses can be met. Five rows come in two orders; one can't be
+-- logged and stays held; one is prepared and sealed at its desk, and comes to the other in a batch. One batch and one sealing are refused, and one call sets the
+-- floor.
 use mathlib.Core.Option.{none, some}
 use Prim.Native.Nat.{ℕ, _+_, _^_}
-use mathlib.Core.Path.{_≡_, refl, _∙_, sym}
+use mathlib.Core.Path.{_≡_, refl, _∙_, sym, ap}
 use mathlib.Core.Logic.{inl, inr}
 use mathlib.Core.Bool.{Bool, true, false, not, _&&_, _||_}
-use mathlib.Core.List.{List, [], _∷_, _++_, List·Memᴰ, List·Memᴰ·head, List·Memᴰ·tail}
+use mathlib.Core.List.{List, [], _∷_, _++_, List·Memᴰ, List·Memᴰ·head, List·Memᴰ·tail, List·Memᴰ·not-nil, List·Memᴰ·cases-cons}
 use native.Mathlib.Omega.{arith}
-use lib.ListN.{replicate}
+use lib.ListN.{replicate, take}
 use lib.Dec.{ltb, leb, eqb}
 use borrow.Author.Tests.{ltb-true, leb-true, eqb-true, eq-eqb}
 use Rattle.words.specs.Be.{bes, get64, column}
-use Rattle.words.specs.Areas.{pad}
+use Rattle.words.specs.Areas.{pad, putAt}
 use Rattle.words.proofs.Words.{test}
 use Rattle.words.proofs.Conjunction.{and-left, and-right, and-both}
+use Rattle.error.specs.declared.Refusal.the-variants.{OtherCauses}
 use Rattle.error.specs.Answer.{Answer, done}
 use Rattle.clock.specs.Entries.{rising}
 use Rattle.clock.proofs.LexicographicOrder.{clash}
-use Rattle.clock.specs.Vector.{pairs, authorsOf, numbersOf, entries, clockOf}
+use Rattle.clock.specs.Hlc.{greater, sendEvent}
+use Rattle.clock.specs.Hybrid.{nowCall, issueAt}
+use Rattle.clock.specs.Vector.{pairs, authorsOf, numbersOf, zeros, entries, clockOf, sound}
+use Rattle.codec.specs.Leb128.{groupThen, groupsOf, shortest}
+use Rattle.codec.specs.Writing.{sized}
 use Rattle.clock.specs.Area.{clockAt, zipped, clockBytes}
 use Rattle.row.specs.Rows.{Row, wordPairs, byteList, stampOk}
+use Rattle.row.specs.Unsigned.{readUnsigned}
+use Rattle.row.specs.Wire.{stampedBytes, pairBytes, depsBytes, unsignedBytes}
 use Rattle.row.specs.Slots.{encodeSlots, slotsAt}
 use Rattle.row.proofs.ListTests.{list-bytes}
 use Rattle.log.specs.Store.{MaybeStamp, Store, derive, neverFalls, sameId, heldRise, noTwice, marksRise, floorOk, clockOk, rules}
+use Rattle.log.specs.Calls.{readClock}
 use Rattle.log.specs.Areas.{Areas, areas, capacity, floorWords, encodeMarks, loggedRows, logBytes, heldBytes, headBytes, rowsOf, stampAt, floorAt, marksAt, decodeStore, countsOk, holds, soundAreas, longEnough, readStore}
 use Rattle.merging.specs.Merging.{sameContent}
 use Rattle.merging.specs.Calls.{raiseFloor}
-use Rattle.merging.specs.Offers.{Call, Given, AllGiven, Empty, batchRows, offered, Accepted, accepted, Spans, OneContent, Within, Converges}
-use Rattle.merging.specs.Group.{stampOf, rowOf, held, emptyStore, r21}
+use Rattle.merging.specs.Desk.{PrepareCall, tooLarge, nextSeq, prepareAnswer, prepareEnds, prepareCall, signed, readSealed, sealRow, writable, sealTests}
+use Rattle.merging.specs.OwnRows.{CanPrepare, bytesToSign}
+use Rattle.merging.specs.Offers.{Call, Given, AllGiven, AllMayStand, Empty, batchRows, offered, Accepted, accepted, Spans, OneContent, Within, Converges}
+use Rattle.merging.specs.Group.{own, stampOf, rowOf, held, emptyStore, r21}
 use Rattle.merging.proofs.Examples.{limits, r11, computing, reading}
 use Rattle.merging.proofs.RulesKept.{all-every}
 use Rattle.merging.proofs.RowContent.{one-row}
 use Rattle.merging.proofs.Convergence.{convergence}
-use Rattle.merging.proofs.CallTraces.{answerOn, Trace, trace, Traces, traced}
+use Rattle.merging.proofs.OwnRows.{own-may-stand, refused-may-stand}
+use Rattle.merging.proofs.CallTraces.{answerOn, sealOn, Trace, trace, Traces, traced, StandsOn, AllStandOn, all-stand, refused-on}
 use Rattle.words.specs.Lists.{all}
 
 -- ---- the calls
@@ -41,12 +53,21 @@ use Rattle.words.specs.Lists.{all}
 abbrev pub blank : Areas
 blank = areas (replicate 2816 0) (replicate 45056 0) (replicate 2120 0)
 
--- beside 1:1 and 2:1, which needs it: 2:2, and 3:2, whose author's first row never comes
+-- beside 1:1 and 2:1, which needs it: 2:2; 3:2, whose author's first row never comes; and 1:2, which is prepared after 1:1 and signed
 abbrev pub r22 : Row
 r22 = rowOf 7 2 2 [] (9 ∷ [])
 
 abbrev pub r32 : Row
 r32 = rowOf 4 3 2 [] []
+
+abbrev pub prepared12 : Row
+prepared12 = rowOf 6 1 2 ((1, 1) ∷ []) (8 ∷ [])
+
+abbrev pub signature12 : List ℕ
+signature12 = 4 ∷ 2 ∷ []
+
+abbrev pub r12 : Row
+r12 = signed prepared12 signature12
 
 -- their bytes in a batch: stamp, author, sequence, dependencies, payload, signature; verdict 1, outcome 0, detail 0
 abbrev pub bytes11 : List ℕ
@@ -61,6 +82,13 @@ bytes22 = 7 ∷ 0 ∷ 2 ∷ 2 ∷ 2 ∷ 0 ∷ 1 ∷ 9 ∷ 0 ∷ 1 ∷ 0 ∷ 0 �
 abbrev pub bytes32 : List ℕ
 bytes32 = 4 ∷ 0 ∷ 3 ∷ 3 ∷ 2 ∷ 0 ∷ 0 ∷ 0 ∷ 1 ∷ 0 ∷ 0 ∷ []
 
+-- the bytes to sign
+abbrev pub unsigned12 : List ℕ
+unsigned12 = 6 ∷ 0 ∷ 1 ∷ 1 ∷ 2 ∷ 1 ∷ 1 ∷ 1 ∷ 1 ∷ 8 ∷ []
+
+abbrev pub bytes12 : List ℕ
+bytes12 = unsigned12 ++ (2 ∷ 4 ∷ 2 ∷ 1 ∷ 0 ∷ 0 ∷ [])
+
 -- 1:1 with another payload and verdict 0, which is 12: a refused batch offers nothing
 abbrev pub forged : List ℕ
 forged = 5 ∷ 0 ∷ 1 ∷ 1 ∷ 1 ∷ 0 ∷ 1 ∷ 8 ∷ 0 ∷ 0 ∷ 0 ∷ 0 ∷ []
@@ -68,42 +96,63 @@ forged = 5 ∷ 0 ∷ 1 ∷ 1 ∷ 1 ∷ 0 ∷ 1 ∷ 8 ∷ 0 ∷ 0 ∷ 0 ∷ 0 ∷
 -- a batch call at a time, under pending age 50
 abbrev pub bring : ℕ → List ℕ → Call
 bring time bytes =
-    Call.batch (record { limits = limits 64 50; time = time; batch = bytes; scratch = replicate 2816 0; output = replicate 72 0 })
+    Call.batch (record { limits = limits 64 50; time = time; batch = bytes; scratch = replicate 3520 0; output = replicate 90 0 })
 
 -- the times of the accepted batches span 50 and 10
 abbrev pub calls₁ : List Call
-calls₁ = bring 1000 (2 ∷ bytes21 ++ bytes32) ∷ bring 1010 (1 ∷ forged) ∷ bring 1050 (2 ∷ bytes11 ++ bytes22) ∷ []
+calls₁ = bring 1000 (3 ∷ bytes21 ++ bytes32 ++ bytes12) ∷ bring 1010 (1 ∷ forged) ∷ bring 1050 (2 ∷ bytes11 ++ bytes22) ∷ []
 
+-- the sealing that is repeated is 28: the row's own number has come into the log's clock
 abbrev pub calls₂ : List Call
-calls₂ = bring 70 (1 ∷ bytes11) ∷ Call.floor (stampOf 5 1) ∷ bring 60 (2 ∷ bytes22 ++ bytes32) ∷ bring 65 (1 ∷ bytes21) ∷ []
+calls₂ =
+    bring 70 (1 ∷ bytes11) ∷ Call.floor (stampOf 5 1) ∷ Call.seal unsigned12 signature12 ∷ Call.seal unsigned12 signature12
+    ∷ bring 60 (2 ∷ bytes22 ++ bytes32) ∷ bring 65 (1 ∷ bytes21) ∷ []
+
+-- author 1's desk at time 6, its hybrid clock at 5/0; it has the log's clock, and issued number 1 last
+abbrev pub atDesk : PrepareCall
+atDesk =
+    record {
+      author = 1;
+      time = 6;
+      payload = 8 ∷ [];
+      hybrid = own 5 0;
+      clock = clockBytes (clockOf ((1, 1) ∷ []));
+      issued = 1;
+      output = replicate 12 0;
+    }
 
 -- ---- what they come to, computed
 
 abbrev pub at : ℕ → Accepted
 at time = record { time = time; age = 50 }
 
--- a store with the three rows logged, and 3:2 held since then
+-- a store with the four rows logged, and 3:2 held since then
 abbrev pub after : ℕ → MaybeStamp → Store
 after time f =
     record {
-      log = r21 ∷ r11 ∷ r22 ∷ [];
+      log = r21 ∷ r11 ∷ r12 ∷ r22 ∷ [];
       held = held time r32 ∷ [];
       floor = f;
-      clock = (1, 1) ∷ (2, 2) ∷ [];
+      clock = (1, 2) ∷ (2, 2) ∷ [];
       compacted = [];
-      marks = record { author = 1; stamp = stampOf 5 1 } ∷ record { author = 2; stamp = stampOf 7 2 } ∷ [];
+      marks = record { author = 1; stamp = stampOf 6 1 } ∷ record { author = 2; stamp = stampOf 7 2 } ∷ [];
     }
 
 abbrev pub trace₁ : Trace
-trace₁ = record { store = after 1000 none; offers = r21 ∷ r32 ∷ r11 ∷ r22 ∷ []; accepts = at 1000 ∷ at 1050 ∷ [] }
+trace₁ = record { store = after 1000 none; offers = r21 ∷ r32 ∷ r12 ∷ r11 ∷ r22 ∷ []; accepts = at 1000 ∷ at 1050 ∷ [] }
 
 abbrev pub trace₂ : Trace
-trace₂ = record { store = after 60 (some (stampOf 5 1)); offers = r11 ∷ r22 ∷ r32 ∷ r21 ∷ []; accepts = at 70 ∷ at 60 ∷ at 65 ∷ [] }
+trace₂ = record { store = after 60 (some (stampOf 5 1)); offers = r11 ∷ r12 ∷ r22 ∷ r32 ∷ r21 ∷ []; accepts = at 70 ∷ at 60 ∷ at 65 ∷ [] }
 
 -- stands for the definitions that read a batch and trace calls
 tracing : ℕ
-unfolding computing reading trace answerOn batchRows raiseFloor
+unfolding computing reading trace answerOn batchRows raiseFloor sealOn readSealed readUnsigned sealTests sealRow
 tracing = 0
+
+-- and that prepare a row
+unfoldable pub preparing : ℕ
+unfolding computing reading prepareCall prepareEnds prepareAnswer writable tooLarge nextSeq greater nowCall issueAt sendEvent readClock sound zeros rising entries pairs clockAt clockOf clockBytes zipped column authorsOf numbersOf pad bes get64 putAt unsignedBytes stampedBytes depsBytes pairBytes sized shortest groupsOf groupThen
+preparing = 0
 
 -- over the store as values and the batches' bytes
 computed₁ : trace 4 calls₁ (emptyStore none) ≡ trace₁
@@ -132,6 +181,7 @@ empty = record { store = emptyStore none; holds = blank-reads; log = refl; held 
 unfoldable canMake : Call → Bool
 canMake (Call.batch c) = ltb (c .time) (2 ^ 64) && byteList (c .batch)
 canMake (Call.floor t) = stampOk t
+canMake (Call.seal bytes signature) = byteList bytes && byteList signature
 
 given-tested : (cs : List Call) → all canMake cs ≡ true → AllGiven cs
 unfolding canMake
@@ -140,6 +190,7 @@ given-tested cs t c m = by-call c (all-every canMake cs t c m)
     by-call : (c : Call) → canMake c ≡ true → Given c
     by-call (Call.batch c) h = (ltb-true _ _ (and-left _ _ h), list-bytes (c .batch) (and-right (ltb (c .time) (2 ^ 64)) _ h))
     by-call (Call.floor t) h = h
+    by-call (Call.seal bytes signature) h = (list-bytes bytes (and-left _ _ h), list-bytes signature (and-right (byteList bytes) _ h))
 
 given₁ : AllGiven calls₁
 unfolding canMake all byteList
@@ -154,6 +205,62 @@ traces₁ = rw computed₁ at (traced 4 calls₁ given₁ blank (emptyStore none
 
 pub traces₂ : Traces blank calls₂ trace₂
 traces₂ = rw computed₂ at (traced 4 calls₂ given₂ blank (emptyStore none) blank-reads room)
+
+-- ---- each call may stand: the sealing is of a row that was prepared, and the repeated one is refused
+
+prepares : prepareCall atDesk .answer ≡ done prepared12
+unfolding preparing
+prepares = refl
+
+to-sign : bytesToSign atDesk prepared12 ≡ unsigned12
+unfolding preparing
+to-sign = refl
+
+can-prepare : CanPrepare atDesk
+unfolding preparing byteList
+can-prepare =
+    record {
+      author = omega arith;
+      time = omega arith;
+      payload = list-bytes (atDesk .payload) refl;
+      clock = list-bytes (atDesk .clock) refl;
+      actor = omega arith;
+      wall = omega arith;
+      counter = omega arith;
+    }
+
+-- the stores on which the row is sealed, and sealed again
+abbrev beforeSealing : Store
+beforeSealing = trace 4 (take 2 calls₂) (emptyStore none) .store
+
+abbrev afterSealing : Store
+afterSealing = trace 4 (take 3 calls₂) (emptyStore none) .store
+
+is-first : (y : Row) → List·Memᴰ y (r11 ∷ []) → y ≡ r11
+is-first y m = elim (List·Memᴰ·cases-cons m) [ inl q ↦ q | inr k ↦ absurd (List·Memᴰ·not-nil k) ]
+
+seals-own : StandsOn 4 beforeSealing (r11 ∷ []) (Call.seal unsigned12 signature12)
+unfolding tracing
+seals-own a h room =
+    rw to-sign at (own-may-stand a (r11 ∷ []) atDesk prepared12 beforeSealing signature12 can-prepare prepares h
+    (λ m. let e : _≡_ {A = ℕ} 2 1 = ap (λ (x : Row). x .seq) (is-first r12 m) in omega arith)
+    (λ y n m k l. List·Memᴰ·not-nil (rw (is-first y m) at k))
+    (λ y m e l. let q : y .seq ≡ 1 = ap (λ (x : Row). x .seq) (is-first y m) in omega arith)
+    refl)
+
+seals-again : StandsOn 4 afterSealing (r11 ∷ r12 ∷ []) (Call.seal unsigned12 signature12)
+unfolding tracing
+seals-again a h room = refused-may-stand a _ unsigned12 signature12 OtherCauses (refused-on 4 afterSealing unsigned12 signature12 refl a h room)
+
+stand₁ : AllMayStand blank [] calls₁
+unfolding AllStandOn
+stand₁ = all-stand 4 calls₁ given₁ blank (emptyStore none) blank-reads room [] (λ _ _ _. tt, (λ _ _ _. tt, (λ _ _ _. tt, tt)))
+
+stand₂ : AllMayStand blank [] calls₂
+unfolding tracing AllStandOn
+stand₂ =
+    all-stand 4 calls₂ given₂ blank (emptyStore none) blank-reads room []
+    (λ _ _ _. tt, (λ _ _ _. tt, (seals-own, (seals-again, (λ _ _ _. tt, (λ _ _ _. tt, tt))))))
 
 same-id : (r s : Row) → r .author ≡ s .author → r .seq ≡ s .seq → sameId r s ≡ true
 unfolding sameId
@@ -195,7 +302,7 @@ spans₂ = rw (traces₂ .accepts) (spans-tested _ refl)
 -- ---- demand 3 of these lists
 
 pub converges : Converges blank blank calls₁ calls₂
-converges = convergence blank blank calls₁ calls₂ given₁ given₂ empty empty one spans₁ spans₂
+converges = convergence blank blank calls₁ calls₂ given₁ given₂ empty empty stand₁ stand₂ one spans₁ spans₂
 
 -- the two lists offer the same rows, tested
 unfoldable has : Row → List Row → Bool

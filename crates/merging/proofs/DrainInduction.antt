@@ -20,6 +20,7 @@ use Rattle.words.proofs.Words.{test}
 use Rattle.clock.proofs.LexicographicOrder.{clash}
 use Rattle.words.proofs.Conjunction.{and-left, and-right, and-both}
 use Rattle.merging.proofs.CausalListings.{last-cases}
+use Rattle.merging.proofs.SortedLists.{place}
 
 -- ---- a list without one of its elements
 
@@ -42,6 +43,12 @@ module _ {A : Type 0} where
   pub taken-length : {r : A} {rest l : List A} → Taken r rest l → length l ≡ suc (length rest)
   taken-length here = refl
   taken-length (there t) = ap suc (taken-length t)
+
+-- what was put into its place
+pub taken-place : {A : Type 0} (stays : A → Bool) (r : A) (l : List A) → Taken r l (place stays r l)
+unfolding place
+taken-place stays r [] = here
+taken-place stays r (x ∷ l) = elim (test (stays x)) [ inl h ↦ rw h (there (taken-place stays r l)) | inr h ↦ rw h here ]
 
 pub taken-rows : {h : HeldRow} {rest hs : List HeldRow} → Taken h rest hs → Taken (h .row) (rowsOf rest) (rowsOf hs)
 unfolding rowsOf

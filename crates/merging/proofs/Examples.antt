@@ -274,11 +274,11 @@ unfolding computing
 log-full = refl
 
 -- so many authors from an author on, each with number 1, and each with a watermark
-entriesFrom : ℕ → ℕ → List (ℕ × ℕ)
+unfoldable pub entriesFrom : ℕ → ℕ → List (ℕ × ℕ)
 entriesFrom a zero = []
 entriesFrom a (suc n) = (a, 1) ∷ entriesFrom (suc a) n
 
-marksFrom : ℕ → ℕ → List Mark
+unfoldable pub marksFrom : ℕ → ℕ → List Mark
 marksFrom a zero = []
 marksFrom a (suc n) = record { author = a; stamp = stampOf 1 a } ∷ marksFrom (suc a) n
 

@@ -7,6 +7,8 @@ pub mod RowStarts
 pub mod DrainInduction
 pub mod Admission
 pub mod Invariant
+pub mod Sealings
+pub mod SealedRows
 pub mod StoreRuns
 pub mod StoreAgreement
 pub mod RulesKept
@@ -14,6 +16,7 @@ pub mod LeastReady
 pub mod RowContent
 pub mod BatchRows
 pub mod AreasToStores
+pub mod OwnRows
 pub mod Convergence
 pub mod CallTraces
 pub mod DemandInstance
@@ -21,4 +24,5 @@ pub mod Traces
 pub mod Balance
 pub mod LentBytes
 pub mod Examples
+pub mod DeskExamples
 pub mod Group

@@ -1,38 +1,48 @@
--- Calls on a store as values: accepted batches and floor settings, from an empty store; a refused call leaves the store, and so does not show. What holds
--- after every such run whose offers are fair.
-use Prim.Native.Nat.{ℕ, _-_}
+-- Calls on a store as values: accepted batches, floor settings and accepted sealings, from an empty store; a refused call leaves the store, and so does not
+-- show. What holds after every such run whose offers are fair.
+use Prim.Native.Nat.{ℕ, suc, _-_, _≤_, _<_}
 use mathlib.Core.Path.{_≡_, refl, sym, ap}
 use mathlib.Core.Logic.{inl, inr}
 use mathlib.Core.Bool.{Bool, true, false, not}
-use mathlib.Core.List.{List, [], _∷_, _++_, List·Memᴰ, List·Memᴰ·head, List·Memᴰ·tail, List·Memᴰ·not-nil, List·Memᴰ·cases-cons, List·Memᴰ·append-cases, Memᴰ·append-left, Memᴰ·append-right}
+use mathlib.Core.List.{List, [], _∷_, _++_, List·Memᴰ, List·Memᴰ·head, List·Memᴰ·tail, List·Memᴰ·not-nil, List·Memᴰ·cases-cons, List·Memᴰ·append-cases, Memᴰ·append-left, Memᴰ·append-right, Memᴰ·cast}
 use native.Mathlib.Omega.{arith}
 use lib.Dec.{eqb}
-use borrow.Author.Tests.{eqb-true}
+use borrow.Author.Tests.{eqb-true, eqb-false}
 use Rattle.words.proofs.Words.{test}
 use Rattle.error.specs.declared.Refusal.{Refusal}
 use Rattle.error.specs.Answer.{done, refused, unless}
 use Rattle.clock.specs.declared.stamp.Timestamp.{Timestamp}
-use Rattle.clock.specs.Entries.{get}
+use Rattle.clock.specs.Entries.{get, observe}
 use Rattle.clock.proofs.RisingAuthors.{Rises}
+use Rattle.clock.proofs.LexicographicOrder.{clash}
 use Rattle.row.specs.Rows.{Row, HeldRow}
 use Rattle.row.specs.Reading.{BatchRow}
 use Rattle.log.specs.Store.{Store}
 use Rattle.log.specs.Areas.{rowsOf}
 use Rattle.merging.specs.Batch.{Limits, validate, validateAll}
-use Rattle.merging.specs.Merging.{unexpired, Admitted, Drained, settle, commit, Merged, merge}
+use Rattle.merging.specs.Merging.{ready, unexpired, Admitted, Drained, settle, commit, Merged, merge}
 use Rattle.merging.specs.Calls.{withFloor}
+use Rattle.merging.specs.Desk.{sealRow}
 use Rattle.merging.specs.Offers.{batchRows, Accepted, Spans, OneContent, count, ListedAfter, Sorted, Within}
 use Rattle.merging.proofs.Traces.{not-refused, then-done, insert-held, merge-went}
-use Rattle.merging.proofs.CausalListings.{count-none, last-self, listed-more}
-use Rattle.merging.proofs.RowLists.{unexpired-all}
-use Rattle.merging.proofs.DrainInduction.{Idle, settle-every}
+use Rattle.merging.proofs.CausalListings.{count-none, last-self, last-cases, listed-more}
+use Rattle.merging.proofs.RowLists.{goesBefore, unexpired-all}
+use Rattle.merging.proofs.DrainInduction.{Idle, taken-place, ready-seq, ready-deps, is-ready, settle-every}
 use Rattle.merging.proofs.Admission.{admit-every}
-use Rattle.merging.proofs.Invariant.{Valid, Inv, keeps-admits, settles}
-use Rattle.log.specs.Insertion.{insertAll}
+use Rattle.merging.proofs.Invariant.{Valid, Inv, keeps-log, keeps-new, keeps-admits, settles}
+use Rattle.merging.proofs.ClockLaws.{get-others, get-member}
+use Rattle.merging.proofs.Sealings.{Seals, row-sealed}
+use Rattle.log.specs.Insertion.{insertRow, insert, insertAll}
 
 -- time and pending age of a batch
 abbrev pub accepting : ℕ → Limits → Accepted
 accepting time l = record { time = time; age = l .maxPendingAge }
+
+-- neither r nor a row depending on it or later by its author is among these
+pub record Fresh (o : List Row) (r : Row) : Type 0 where
+  pub not-it : List·Memᴰ r o → ⊥
+  pub none-depends : (y : Row) (n : ℕ) → List·Memᴰ y o → List·Memᴰ (r .author, n) (y .deps) → r .seq ≤ n → ⊥
+  pub none-later : (y : Row) → List·Memᴰ y o → y .author ≡ r .author → r .seq < y .seq → ⊥
 
 -- `Run offers accepted s`: calls from an empty store that offer these rows in these accepted batches lead to s
 pub data Run : List Row → List Accepted → Store → Type 0 where
@@ -40,6 +50,8 @@ pub data Run : List Row → List Accepted → Store → Type 0 where
   batch : {o : List Row} {t : List Accepted} {s : Store} (cap : ℕ) (l : Limits) (time : ℕ) (rows : List BatchRow) (m : Merged)
       → merge cap l time s rows ≡ done m → Run o t s → Run (o ++ batchRows rows) (t ++ (accepting time l ∷ [])) (m .store)
   floor : {o : List Row} {t : List Accepted} {s : Store} (x : Timestamp) → Run o t s → Run o t (withFloor s x)
+  seal : {o : List Row} {t : List Accepted} {s : Store} (cap : ℕ) (r : Row) (s′ : Store) → sealRow cap s r ≡ done s′
+      → r .seq ≡ suc (get (s .clock) (r .author)) → Fresh o r → Run o t s → Run (o ++ (r ∷ [])) t s′
 
 -- a held row's arrival is the time of an accepted batch
 abbrev pub Arrived : List Accepted → HeldRow → Type 0
@@ -171,6 +183,66 @@ module _ {o : List Row} {t : List Accepted} {s : Store} (l : Limits) (time : ℕ
         arrivals = rw held arrivals;
       })
 
+-- ---- an accepted sealing
+
+-- the row is entered among the held rows, and logged at once
+module _ {o p : List Row} {c : List (ℕ × ℕ)} {ls g w : List Row} (r : Row) (one : OneContent (o ++ (r ∷ [])))
+    (valid : (y : Row) → List·Memᴰ y (o ++ (r ∷ [])) → Valid y) (next : r .seq ≡ suc (get c (r .author))) (causes : r .deps ≡ c)
+    (not-it : List·Memᴰ r o → ⊥) (i : Inv o p c ls g w) where
+  apart : (y : Row) → List·Memᴰ y w → r .author ≡ y .author → r .seq ≡ y .seq → ⊥
+  apart y m e f = not-it (Memᴰ·cast (one r y (last-self o r) (Memᴰ·append-left (r ∷ []) (i .held y m)) e f) (i .held y m))
+
+  met : ready c r ≡ true
+  met = is-ready c r (omega arith) (λ a n m. omega (arith, get-member a n (i .rises) (rw causes at m)))
+
+  keeps-seal : Inv (o ++ (r ∷ [])) (p ++ (r ∷ [])) (observe c (r .author) (r .seq)) (ls ++ (r ∷ [])) (insertRow r g) w
+  keeps-seal =
+      keeps-log (o ++ (r ∷ [])) one valid
+      (keeps-new (o ++ (r ∷ [])) one valid (more-offers (λ y m. Memᴰ·append-left (r ∷ []) m) i) r (last-self o r) (omega arith) apart)
+      r met (taken-place (goesBefore r) r w) next
+
+module _ {o : List Row} {t : List Accepted} {s : Store} (cap : ℕ) (r : Row) (s′ : Store) (e : sealRow cap s r ≡ done s′)
+    (next : r .seq ≡ suc (get (s .clock) (r .author))) (fresh : Fresh o r) (one : OneContent (o ++ (r ∷ []))) (G : Good o t s) where
+  seals : Seals cap s r s′
+  seals = row-sealed cap s r s′ e
+
+  new-valid : (y : Row) → List·Memᴰ y (o ++ (r ∷ [])) → Valid y
+  new-valid y m = elim (last-cases o r m) [ inl q ↦ rw q (record { first = seals .first; own = seals .own }) | inr k ↦ G .valid y k ]
+
+  -- no held row is a later one of the author
+  other-author : (y : Row) → List·Memᴰ y (rowsOf (s .held)) → r .author ≡ y .author → ⊥
+  other-author y m q =
+      let yo : List·Memᴰ y o = G .inv .held y m in
+      let up : r .seq ≤ y .seq = omega (arith, G .inv .ahead y m, G .inv .clock (y .author), ap (get (s .clock)) q) in
+      let same : r .seq ≡ y .seq = omega (arith, fresh .none-later y yo (sym q)) in
+      fresh .not-it (Memᴰ·cast (one r y (last-self o r) (Memᴰ·append-left (r ∷ []) yo) q same) yo)
+
+  -- no held row becomes ready: none is the author's, and none depends on the row
+  still-idle : (y : Row) → List·Memᴰ y (rowsOf (s .held)) → ready (observe (s .clock) (r .author) (r .seq)) y ≡ true → ready (s .clock) y ≡ true
+  still-idle y m rd =
+      is-ready (s .clock) y
+      (omega (arith, ready-seq _ y rd, get-others (s .clock) (r .author) (r .seq) next (y .author) (other-author y m)))
+      (λ a n k. elim (test (eqb (r .author) a)) [
+        | inl h ↦
+            let q : r .author ≡ a = eqb-true _ _ h in
+            omega (arith, fresh .none-depends y n (G .inv .held y m) (rw (← q) at k), ap (get (s .clock)) q)
+        | inr h ↦ omega (arith, ready-deps _ y rd a n k, get-others (s .clock) (r .author) (r .seq) next a (eqb-false _ _ h))
+      ])
+
+  good-seal : Good (o ++ (r ∷ [])) t s′
+  unfolding insert
+  good-seal =
+      rw (← (seals .store)) (record {
+        listing = G .listing ++ (r ∷ []);
+        inv = keeps-seal r one new-valid next (seals .causes) (fresh .not-it) (G .inv);
+        idle = λ y m. elim (test (ready (observe (s .clock) (r .author) (r .seq)) y)) [
+          | inl h ↦ absurd (clash (still-idle y m h) (G .idle y m))
+          | inr h ↦ h
+        ];
+        valid = new-valid;
+        arrivals = G .arrivals;
+      })
+
 -- ---- every run
 
 pub one-part : {few many : List Row} → Within few many → OneContent many → OneContent few
@@ -186,3 +258,5 @@ good (batch {o = o} {t = t} cap l time rows m e run) one spans =
 good (floor x run) one spans =
     let G = good run one spans in
     record { listing = G .listing; inv = G .inv; idle = G .idle; valid = G .valid; arrivals = G .arrivals }
+good (seal {o = o} cap r s′ e next fresh run) one spans =
+    good-seal cap r s′ e next fresh one (good run (one-part (λ y k. Memᴰ·append-left (r ∷ []) k) one) spans)

@@ -1,13 +1,17 @@
--- 01: "A refusal changes no lent byte except that scratch is always all zero after the call.", and what a floor setting leaves. Statements; their proofs stand in
--- proofs/LentBytes.antt.
+-- 01: "A refusal changes no lent byte except that scratch is always all zero after the call."; 02: "here a refusal moves nothing"; and what a floor setting and a
+-- sealing leave. Statements; their proofs stand in proofs/LentBytes.antt.
 use mathlib.Core.Path.{_≡_}
 use lib.ListN.{length, replicate}
+use Rattle.words.specs.Names.{Bytes}
 use Rattle.error.specs.declared.Refusal.{Refusal}
-use Rattle.error.specs.Answer.{done, refused}
+use Rattle.error.specs.Answer.{done, refused, nothing}
 use Rattle.clock.specs.declared.stamp.Timestamp.{Timestamp}
+use Rattle.row.specs.Rows.{Row}
 use Rattle.log.specs.Store.{Store}
 use Rattle.log.specs.Areas.{Areas, readStore, writeStore}
+use Rattle.log.specs.Insertion.{insert}
 use Rattle.merging.specs.Calls.{BatchCall, Lent, batchCall, setFloorCall}
+use Rattle.merging.specs.Desk.{PrepareCall, prepareCall, readSealed, sealCall}
 
 -- every lent byte after a batch call: the three areas and the output as lent, scratch zero
 pub record Unchanged (a : Areas) (c : BatchCall) (lent : Lent) : Type 0 where
@@ -33,3 +37,26 @@ pub record Floored (a : Areas) (s : Store) (t : Timestamp) : Type 0 where
 
 abbrev pub FloorLeaves : Type 0
 FloorLeaves = (a : Areas) (s : Store) (t : Timestamp) → readStore a ≡ done s → Floored a s t
+
+-- a refused preparing hands the hybrid clock back as it came, and leaves the output
+abbrev pub PrepareRefusedLeaves : Type 0
+PrepareRefusedLeaves =
+    (c : PrepareCall) (r : Refusal) → prepareCall c .answer ≡ refused r → prepareCall c .left ≡ record { hybrid = c .hybrid; output = c .output }
+
+abbrev pub SealRefusedLeaves : Type 0
+SealRefusedLeaves =
+    (a : Areas) (bytes signature : Bytes) (r : Refusal) → sealCall a bytes signature .answer ≡ refused r → sealCall a bytes signature .left ≡ a
+
+-- an accepted sealing writes the store with the row inserted, whose held rows, floor and compacted clock are as they were
+pub record SealedInto (a : Areas) (s : Store) (bytes signature : Bytes) : Type 0 where
+  pub row : Row
+  pub reads : readSealed bytes signature ≡ done row
+  pub writes : sealCall a bytes signature .left ≡ writeStore a (insert s row)
+  pub held : insert s row .held ≡ s .held
+  pub floor : insert s row .floor ≡ s .floor
+  pub compacted : insert s row .compacted ≡ s .compacted
+
+abbrev pub SealLeaves : Type 0
+SealLeaves =
+    (a : Areas) (s : Store) (bytes signature : Bytes) → readStore a ≡ done s → sealCall a bytes signature .answer ≡ done nothing
+    → SealedInto a s bytes signature

@@ -1,7 +1,9 @@
 pub mod Batch
 pub mod Merging
 pub mod Calls
+pub mod Desk
 pub mod Offers
+pub mod OwnRows
 pub mod Least
 pub mod Balance
 pub mod LentBytes

@@ -1,15 +1,15 @@
--- Document 01, "Call lists and fair offers" (demand 3): call lists, what they offer, when offers are fair, causal listings, and what demand 3 says. The theorem
--- stands in proofs/Convergence.antt.
+-- Document 01, "Call lists and fair offers" (demand 3), with the sealings of document 02, ticket 1: call lists, what they offer, when offers are fair, causal
+-- listings, and what demand 3 says. The theorem stands in proofs/Convergence.antt.
 use Prim.Native.Nat.{ℕ, suc, _+_, _≤_, _<_, _^_}
 use mathlib.Core.Path.{_≡_}
 use mathlib.Core.Logic.{_↔_}
 use mathlib.Core.Bool.{Bool, true, not, _&&_, _||_}
 use mathlib.Core.List.{List, [], _∷_, _++_, map, List·Memᴰ, Sublistᴰ}
 use lib.Dec.{ltb, eqb}
-use Rattle.words.specs.Names.{Author, Seq, Time}
+use Rattle.words.specs.Names.{Author, Seq, Time, Bytes}
 use Rattle.words.specs.Be.{AllBytes}
 use Rattle.words.specs.Lists.{countIf}
-use Rattle.error.specs.Answer.{Answer, done, refused}
+use Rattle.error.specs.Answer.{Answer, done, refused, nothing}
 use Rattle.clock.specs.declared.stamp.Timestamp.{Timestamp}
 use Rattle.clock.specs.Order.{stampLess}
 use Rattle.clock.specs.Entries.{get}
@@ -19,17 +19,20 @@ use Rattle.log.specs.Store.{Store}
 use Rattle.log.specs.Areas.{Areas, rowsOf, readStore}
 use Rattle.merging.specs.Batch.{readBatch}
 use Rattle.merging.specs.Calls.{BatchCall, batchCall, setFloorCall}
+use Rattle.merging.specs.Desk.{readSealed, sealCall, Own}
 use Rattle.merging.specs.Merging.{sameContent}
 
--- 01: "A call list is any list of batch calls and floor settings on one store, refused ones included."
+-- 01: "A call list is any list of batch calls and floor settings on one store, refused ones included."; and sealings, each by its bytes and its signature
 pub data Call : Type 0 where
   batch : BatchCall → Call
   floor : Timestamp → Call
+  seal : (bytes signature : Bytes) → Call
 
 -- 01: "batch, settings, time, floor and the other areas are any at all": a byte is below 256, the time and the numbers of a stamp fit their widths
 abbrev pub Given : Call → Type 0
 Given (batch c) = (c .time < 2 ^ 64) × AllBytes (c .batch)
 Given (floor t) = stampOk t ≡ true
+Given (seal bytes signature) = AllBytes bytes × AllBytes signature
 
 -- each call of a list is one that can be made
 abbrev pub AllGiven : List Call → Type 0
@@ -39,6 +42,7 @@ AllGiven cs = (c : Call) → List·Memᴰ c cs → Given c
 unfoldable pub afterCall : Areas → Call → Areas
 afterCall a (batch c) = batchCall a c .left .areas
 afterCall a (floor t) = setFloorCall a t .left
+afterCall a (seal bytes signature) = sealCall a bytes signature .left
 
 unfoldable pub runCalls : Areas → List Call → Areas
 runCalls a [] = a
@@ -64,14 +68,21 @@ abbrev pub rowsRead : Answer (List BatchRow) → List Row
 rowsRead (done bs) = batchRows bs
 rowsRead (refused r) = []
 
+-- the row of a sealing
+abbrev pub rowRead : Answer Row → List Row
+rowRead (done r) = r ∷ []
+rowRead (refused f) = []
+
 abbrev pub whenAccepted : {A B : Type 0} → Answer A → List B → List B
 whenAccepted (done x) l = l
 whenAccepted (refused r) l = []
 
--- 01: "A row is offered to a store when an accepted batch of its list holds it"
+-- 01: "A row is offered to a store when an accepted batch of its list holds it"; 02: "A desk's own row, sealed as prepared, counts as offered to its store": every
+-- accepted sealing; `AllMayStand` asks `Own` of each
 unfoldable pub offeredBy : Areas → Call → List Row
 offeredBy a (batch c) = whenAccepted (batchCall a c .answer) (rowsRead (readBatch (c .batch)))
 offeredBy a (floor t) = []
+offeredBy a (seal bytes signature) = whenAccepted (sealCall a bytes signature .answer) (rowRead (readSealed bytes signature))
 
 unfoldable pub offered : Areas → List Call → List Row
 offered a [] = []
@@ -85,6 +96,7 @@ pub record Accepted : Type 0 where
 unfoldable pub acceptedBy : Areas → Call → List Accepted
 acceptedBy a (batch c) = whenAccepted (batchCall a c .answer) (record { time = c .time; age = c .limits .maxPendingAge } ∷ [])
 acceptedBy a (floor t) = []
+acceptedBy a (seal bytes signature) = []
 
 unfoldable pub accepted : Areas → List Call → List Accepted
 accepted a [] = []
@@ -102,6 +114,21 @@ OneContent rows = (r s : Row) → List·Memᴰ r rows → List·Memᴰ s rows �
 -- and two rows are equal where step 2 would compare them as equal; proved in proofs/RowContent.antt
 abbrev pub OneRow : Type 0
 OneRow = (r s : Row) → ((r .author ≡ s .author) × (r .seq ≡ s .seq) × (sameContent r s ≡ true)) ↔ (r ≡ s)
+
+-- ---- sealings
+
+-- 02: "In a call list of demand 3 such a sealing, or a refused one, may stand beside batch calls and floor settings, and no other sealing may."
+abbrev pub MayStand : Areas → (before : List Row) → Call → Type 0
+MayStand a before (batch c) = Unit
+MayStand a before (floor t) = Unit
+MayStand a before (seal bytes signature) =
+    (r : Row) → sealCall a bytes signature .answer ≡ done nothing → readSealed bytes signature ≡ done r → Own a before r
+
+-- each call of a list may stand where it stands
+pub data AllMayStand : Areas → (before : List Row) → List Call → Type 0 where
+  none : {a : Areas} {before : List Row} → AllMayStand a before []
+  more : {a : Areas} {before : List Row} {c : Call} {cs : List Call}
+      → MayStand a before c → AllMayStand (afterCall a c) (before ++ offeredBy a c) cs → AllMayStand a before (c ∷ cs)
 
 -- ---- causal listings
 
@@ -170,5 +197,6 @@ pub record Converges (a₁ a₂ : Areas) (cs₁ cs₂ : List Call) : Type 0 wher
 abbrev pub Demand3 : Type 0
 Demand3 =
     (a₁ a₂ : Areas) (cs₁ cs₂ : List Call) → AllGiven cs₁ → AllGiven cs₂ → Empty a₁ → Empty a₂
+    → AllMayStand a₁ [] cs₁ → AllMayStand a₂ [] cs₂
     → OneContent (offered a₁ cs₁ ++ offered a₂ cs₂) → Spans (accepted a₁ cs₁) → Spans (accepted a₂ cs₂)
     → Converges a₁ a₂ cs₁ cs₂

@@ -12,6 +12,7 @@ pub mod ReadRows
 pub mod ReadSteps
 pub mod DepsLoop
 pub mod ReadWhole
+pub mod ReadUnsigned
 pub mod PartLengths
 pub mod SlotWrites
 pub mod OpCalls

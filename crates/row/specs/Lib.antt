@@ -2,6 +2,7 @@ pub mod Rows
 pub mod Slots
 pub mod Wire
 pub mod Reading
+pub mod Unsigned
 pub mod Values
 pub mod Calls
 pub mod inside

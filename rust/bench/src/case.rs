@@ -204,7 +204,7 @@ pub fn same_log(store: &Store, log: &ReplicatedLog) -> Result<(), String> {
 }
 
 /// A verifier that costs nothing. The batch brings the answer to the port.
-struct Always;
+pub struct Always;
 
 impl Verifier for Always {
     fn verify(&self, _: ActorId, _: &[u8], _: &[u8]) -> bool {
@@ -214,7 +214,7 @@ impl Verifier for Always {
 
 /// A state that costs nothing.
 #[derive(Clone)]
-struct Nothing;
+pub struct Nothing;
 
 impl CrdtCompatible for Nothing {
     fn apply(&mut self, _: &Timestamp, _: &UirNode) -> Result<(), ApplyError> {

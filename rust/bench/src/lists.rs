@@ -1,4 +1,4 @@
-//! Calls beside the batch call: from_parts, delta and chunks of a full log, and varints.
+//! Calls beside the batch call: from_parts, delta and chunks of a full log, rows of the desk's own, and varints.
 
 use cuwelfra::{Row, VectorClock, CLOCK_BYTES, HEAD_BYTES, HELD_BYTES, MAX_LOGGED, SLOT_BYTES};
 use cuwelfra_sys as sys;
@@ -7,6 +7,7 @@ use oracle::open::{Reader, Writer};
 use oracle::sync::{calculate_delta, chunk_ops};
 
 use crate::case::{same_log, slots, store_of};
+use crate::own;
 use crate::rows::{chained, operations};
 use crate::timing::{rounds, time, Subject};
 
@@ -29,10 +30,11 @@ pub fn lists() -> Done {
     from_parts("from_parts of 1,024 rows in reverse order", &reversed)?;
     delta(&rows)?;
     chunks(&rows)?;
+    own::own()?;
     varints()
 }
 
-fn line(name: &str, count: usize, port: Subject, original: Subject) {
+pub fn line(name: &str, count: usize, port: Subject, original: Subject) {
     let [port, original] = rounds(count, [port, original]);
     println!(
         "| {name} | {port} | {original} | {:.1} |",
@@ -40,11 +42,11 @@ fn line(name: &str, count: usize, port: Subject, original: Subject) {
     );
 }
 
-fn refused(error: impl std::fmt::Debug) -> String {
+pub fn refused(error: impl std::fmt::Debug) -> String {
     format!("{error:?}")
 }
 
-fn log_of(rows: &[Row]) -> ReplicatedLog {
+pub fn log_of(rows: &[Row]) -> ReplicatedLog {
     ReplicatedLog::from_parts(operations(rows), Default::default())
 }
 

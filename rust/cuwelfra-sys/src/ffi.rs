@@ -20,7 +20,7 @@ use crate::*;
 extern "C" {
     // The interface.
     pub fn cuwelfra_abi() -> u64;
-    pub fn cuwelfra_abi_1() -> u64;
+    pub fn cuwelfra_abi_2() -> u64;
     // Bytes.
     pub fn cuwelfra_varint_len(v: u64) -> usize;
     pub fn cuwelfra_put_varint(out: *mut u8, out_len: usize, at: usize, v: u64) -> Written;
@@ -327,6 +327,34 @@ extern "C" {
         wall_time: u64,
         logical_counter: u32,
         actor_id: u64,
+    ) -> Told;
+
+    // Rows of the desk's own.
+    pub fn cuwelfra_prepare(
+        author: u64,
+        last_wall: u64,
+        last_counter: u32,
+        max_drift_ms: u64,
+        time_ms: u64,
+        issued: u64,
+        payload: *const u8,
+        payload_len: usize,
+        clock: *const u8,
+        clock_len: usize,
+        output: *mut u8,
+        output_len: usize,
+    ) -> PreparedTold;
+    pub fn cuwelfra_seal(
+        log: *mut u8,
+        log_len: usize,
+        held: *const u8,
+        held_len: usize,
+        head: *mut u8,
+        head_len: usize,
+        bytes: *const u8,
+        bytes_len: usize,
+        signature: *const u8,
+        signature_len: usize,
     ) -> Told;
 
     // Peers.

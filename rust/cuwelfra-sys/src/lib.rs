@@ -10,6 +10,7 @@ pub mod ffi;
 
 mod clocks;
 mod codec;
+mod desk;
 mod merge;
 mod peers;
 mod rows;
@@ -17,6 +18,7 @@ mod store;
 
 pub use clocks::*;
 pub use codec::*;
+pub use desk::*;
 pub use merge::*;
 pub use peers::*;
 pub use rows::*;

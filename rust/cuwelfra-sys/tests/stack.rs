@@ -2,7 +2,8 @@
 
 use std::thread;
 
-use cuwelfra_sys::{apply_remote_ops, from_parts, read_op, AreasMut, Settings};
+use cuwelfra_sys::{apply_remote_ops, from_parts, prepare, read_op, seal};
+use cuwelfra_sys::{AreasMut, Preparation, Settings};
 
 const STACK_BYTES: usize = 32 * 1024;
 const ROWS: usize = 1_024;
@@ -79,4 +80,35 @@ fn a_store_of_1024_parts() {
     });
     assert_eq!(told.number, 0);
     assert_eq!(store.head[..8], 1_024u64.to_be_bytes());
+}
+
+/// A row of 624 bytes to sign, and one with the largest signature and payload that is sealed.
+#[test]
+fn a_row_of_its_own() {
+    let of = Preparation {
+        author: u64::MAX,
+        time_ms: u64::MAX,
+        issued: u64::MAX - 1,
+        ..Preparation::default()
+    };
+    let mut clock = [0; 520];
+    clock[7] = 16;
+    for i in 0..16 {
+        clock[8 + 16 * i..][..16].fill(0xff);
+        clock[15 + 16 * i] = 0xe0 + i as u8;
+    }
+    let mut bytes = [0; 624];
+    let told = on_a_small_stack(|| prepare(of, &[7; 256], &clock, &mut bytes));
+    // A stamp's counter of 0 is four bytes less than the longest.
+    assert_eq!((told.told.number, told.deps, told.len), (0, 16, 620));
+
+    let mut store = Store::new();
+    let told = on_a_small_stack(|| prepare(of, &[7; 256], &[0; 520], &mut bytes));
+    assert_eq!(told.told.number, 0);
+    let sealed = on_a_small_stack(|| {
+        let Store { log, held, head } = &mut store;
+        seal(log, held, head, &bytes[..told.len], &[9; 64])
+    });
+    assert_eq!(sealed.number, 0);
+    assert_eq!(store.head[..8], 1u64.to_be_bytes());
 }

@@ -270,7 +270,7 @@ impl HybridClock {
     }
 
     /// Moves the clock on, once its answer is known to fit.
-    fn moved(&mut self, wall: u64, counter: u64) -> Result<(), Refusal> {
+    pub(crate) fn moved(&mut self, wall: u64, counter: u64) -> Result<(), Refusal> {
         self.0.last_counter = small(counter)?;
         self.0.last_wall = wall;
         Ok(())

@@ -43,10 +43,13 @@ impl Fates {
         self.0.extend(last.into_iter().rev());
     }
 
-    /// A row of which nothing is known was put at this position of the log.
-    pub fn insert_unknown(&mut self, position: usize) {
-        if position < self.0.len() {
-            self.0.insert(position, None);
+    /// A row was put at this position of the log, and this is what became of it.
+    pub fn insert(&mut self, position: usize, fate: Option<Fate>) {
+        if fate.is_some() && self.0.len() < position {
+            self.0.resize(position, None);
+        }
+        if position < self.0.len() || fate.is_some() {
+            self.0.insert(position, fate);
         }
     }
 

@@ -4,6 +4,7 @@
 //!
 //! - [`Store`] keeps the rows, logged and held; [`Batch`] brings rows to it, [`Request`] the time and the settings, its
 //!   [`Limits`]; [`Report`] tells what became of them.
+//! - [`Store::prepare`] and [`Store::seal`] add rows of the desk's own, with the server's signature between them.
 //! - [`Store::save`], [`Store::load`] and [`Update`] keep a store in a file.
 //! - [`Delta`] is what a peer lacks, [`Peer`] what is known about one.
 //! - [`HybridClock`] stamps an author's rows, [`VectorClock`] says how far each author's rows are known.
@@ -11,7 +12,7 @@
 //!
 //! Every call answers with a `Result`. A [`Refusal`] has a number and values; it changes nothing, and nothing panics. The
 //! numbers behind a call's description, as in "2, 1", are those that it may be refused with. "Document 01" in these pages
-//! is the project's scope, which fixes them.
+//! is the project's scope, which fixes them; "document 02" has those from 26 on.
 //!
 //! In the repository docs/GUIDE.md goes through all of this from the start, and docs/LAYOUT.md says what each byte of
 //! an area is.
@@ -19,7 +20,7 @@
 //! # A server's loop
 //!
 //! ```
-//! use cuwelfra::{ActorId, Batch, Outcome, Peer, Refusal, Report, Request, Row, Slot, Store, Timestamp};
+//! use cuwelfra::{ActorId, Batch, HybridClock, Outcome, Peer, Refusal, Report, Request, Row, Store, Timestamp};
 //! use cuwelfra::{HEAD_BYTES, HELD_BYTES, MAX_BATCH, SLOT_BYTES};
 //!
 //! // The server's own: is this its author's signature, and does the glossary take the row?
@@ -62,10 +63,13 @@
 //!     Err(refusal) => eprintln!("{refusal}. {} {}", refusal.meaning(), refusal.advice()),
 //! }
 //!
-//! // Rows of its own.
-//! for seq in 1..=80 {
-//!     let row = Row::new(Timestamp::new(1_000, seq as u32, ActorId(3)), seq, "Speiche = spoke");
-//!     store.insert(&Slot::logged(&row.signed([7]))?)?;
+//! // Rows of its own: author 3's, whose numbers start at 1.
+//! let mut clock = HybridClock::new(ActorId(3));
+//! let mut issued = store.clock()?.get(ActorId(3))?;
+//! for _ in 1..=80 {
+//!     let prepared = store.prepare(&mut clock, 1_000, issued, "Speiche = spoke")?;
+//!     store.seal(&prepared.bytes, [7])?;
+//!     issued = prepared.seq;
 //! }
 //!
 //! // Save the areas.
@@ -106,6 +110,7 @@ mod batch;
 mod clock;
 mod codec;
 mod delta;
+mod desk;
 mod fates;
 mod file;
 mod merge;
@@ -124,6 +129,7 @@ pub use clock::{Timestamp, VectorClock, CLOCK_BYTES, MAX_AUTHORS};
 pub use codec::{varint_len, Envelope, Reader, Writer, MAX_BODY, MAX_BODY_SIGNATURE};
 pub use cuwelfra_sys::Told;
 pub use delta::Delta;
+pub use desk::Prepared;
 pub use file::{write_new, FileError, Update};
 pub use merge::{Fate, Logged, Report, LINE_BYTES};
 pub use outcome::{ApplyError, Outcome};
@@ -131,7 +137,7 @@ pub use peer::{Peer, PeerState, MAX_PINGS, PEER_BYTES};
 pub use refusal::{Explained, Refusal};
 pub use request::{Limits, Request};
 pub use row::{HeldRow, Row, Slot, SlotRead};
-pub use row::{MAX_DEPS, MAX_OP_BYTES, MAX_PAYLOAD, MAX_SIGNATURE, SLOT_BYTES};
+pub use row::{MAX_DEPS, MAX_OP_BYTES, MAX_PAYLOAD, MAX_SIGNATURE, MAX_UNSIGNED_BYTES, SLOT_BYTES};
 pub use store::{Found, Place, Store};
 pub use store::{HEAD_BYTES, HELD_BYTES, MAX_HELD, MAX_LOGGED, SCRATCH_BYTES};
 
@@ -222,7 +228,7 @@ mod tests {
         natural::<Report>();
         natural::<Delta<'static>>();
         natural::<(Refusal, Limits, Request, HybridClock, VectorClock)>();
-        natural::<(Peer, Slot, Row)>();
+        natural::<(Peer, Slot, Row, Prepared)>();
         natural::<Reader<'static>>();
     }
 

@@ -16,6 +16,8 @@ pub const MAX_DEPS: usize = 16;
 pub const MAX_PAYLOAD: usize = 256;
 /// Signature bytes of a row at most.
 pub const MAX_SIGNATURE: usize = 64;
+/// Bytes that are signed of a row at most.
+pub const MAX_UNSIGNED_BYTES: usize = 624;
 /// Bytes that hold any row as [`Slot::signed_op`] writes it.
 pub const MAX_OP_BYTES: usize = 704;
 
@@ -26,6 +28,7 @@ const ARRIVAL: usize = 64;
 const OUTCOME: usize = 72;
 const DETAIL: usize = 80;
 const DEPS: usize = 128;
+pub(crate) const STAMP_BYTES: usize = 24;
 pub(crate) const PAYLOAD: usize = 384;
 const SIGNATURE: usize = 640;
 
@@ -251,7 +254,7 @@ pub(crate) fn number_in(area: &[u8; SLOT_BYTES]) -> (ActorId, u64) {
 }
 
 /// The bytes of the stamp in a slot. Stamps are in the order of their bytes.
-pub(crate) fn stamp_in(area: &[u8; SLOT_BYTES]) -> Option<&[u8; 24]> {
+pub(crate) fn stamp_in(area: &[u8; SLOT_BYTES]) -> Option<&[u8; STAMP_BYTES]> {
     area.first_chunk()
 }
 

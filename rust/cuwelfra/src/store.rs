@@ -6,10 +6,10 @@ use cuwelfra_sys as sys;
 
 use crate::clock::number;
 use crate::fates::Fates;
-use crate::row::{row_in, stamp_in, PAYLOAD};
+use crate::row::{row_in, stamp_in, PAYLOAD, STAMP_BYTES};
 use crate::words::{flag, part, size, small, within, word};
 use crate::{ActorId, Fate, HeldRow, Logged, Refusal, Row, Slot, Timestamp, VectorClock};
-use crate::{CLOCK_BYTES, MAX_PAYLOAD, SLOT_BYTES};
+use crate::{CLOCK_BYTES, MAX_AUTHORS, MAX_PAYLOAD, SLOT_BYTES};
 
 /// Rows of a log at most.
 pub const MAX_LOGGED: usize = 1_024;
@@ -21,6 +21,9 @@ pub const HELD_BYTES: usize = MAX_HELD * SLOT_BYTES;
 pub const HEAD_BYTES: usize = 2_120;
 /// Bytes of scratch that a batch call needs for each held and batch row.
 pub const SCRATCH_BYTES: usize = 704;
+
+/// Where the head counts its watermarks, which follow.
+const WATERMARKS: usize = 1_088;
 
 /// A store in three areas: logged rows, held rows, and the head with counts, floor, clocks and watermarks.
 ///
@@ -270,8 +273,9 @@ impl Store {
 
     /// What became of each logged row, in log order; `None` where that is not known.
     ///
-    /// It is known of the rows that [`Store::apply_remote_ops`] logged, and stays with them, also in a file. It is not
-    /// known of rows that came by [`Store::insert`], [`Store::rebuild`] or [`Store::from_areas`].
+    /// It is known of the rows that [`Store::apply_remote_ops`] logged, and stays with them, also in a file; a row that
+    /// [`Store::seal`] logged is applied. It is not known of rows that came by [`Store::insert`], [`Store::rebuild`] or
+    /// [`Store::from_areas`].
     ///
     /// ```
     /// use cuwelfra::{ActorId, ApplyError, Batch, Fate, Refusal, Request, Row, Slot, Store, Timestamp};
@@ -298,6 +302,18 @@ impl Store {
     pub(crate) fn note_fates(&mut self, logged: &[Logged]) -> Result<(), Refusal> {
         let slots = counted_slots(&self.log, &self.head)?;
         self.fates.place(slots, logged);
+        Ok(())
+    }
+
+    /// Notes what became of the row with this stamp that an accepted call put into the log, before its equals.
+    pub(crate) fn note_fate(
+        &mut self,
+        stamp: Option<&[u8; STAMP_BYTES]>,
+        fate: Option<Fate>,
+    ) -> Result<(), Refusal> {
+        let slots = counted_slots(&self.log, &self.head)?;
+        let position = slots.partition_point(|slot| stamp_in(slot) < stamp);
+        self.fates.insert(position, fate);
         Ok(())
     }
 
@@ -331,6 +347,34 @@ impl Store {
     /// The latest stamp seen of an author.
     pub fn watermark(&self, actor: ActorId) -> Result<Option<Timestamp>, Refusal> {
         stamp(sys::watermark(self.lent(), actor.0))
+    }
+
+    /// The latest stamp seen of each author, authors rising. Compaction leaves them.
+    ///
+    /// ```
+    /// use cuwelfra::{ActorId, Refusal, Row, Slot, Store, Timestamp};
+    ///
+    /// let mut store = Store::with_capacity(16)?;
+    /// for (wall, author) in [(30, 2), (10, 1), (20, 1)] {
+    ///     let stamp = Timestamp::new(wall, 0, ActorId(author));
+    ///     store.insert(&Slot::logged(&Row::new(stamp, wall, "Kette"))?)?;
+    /// }
+    /// store.compact(&Timestamp::new(30, 0, ActorId(2)))?;
+    /// let latest = [(1, 20), (2, 30)].map(|(author, wall)| {
+    ///     (ActorId(author), Timestamp::new(wall, 0, ActorId(author)))
+    /// });
+    /// assert_eq!(store.watermarks()?, latest);
+    /// # Ok::<(), Refusal>(())
+    /// ```
+    pub fn watermarks(&self) -> Result<Vec<(ActorId, Timestamp)>, Refusal> {
+        self.check()?;
+        let count = within(word(&self.head, WATERMARKS), MAX_AUTHORS)?;
+        let authors = (0..count).map(|i| ActorId(word(&self.head, WATERMARKS + 8 + 32 * i)));
+        let latest = authors.map(|author| {
+            let stamp = self.watermark(author)?;
+            Ok((author, stamp.ok_or(Refusal::MisfitAnswer)?))
+        });
+        latest.collect()
     }
 
     /// The highest logged sequence of each author.
@@ -394,11 +438,7 @@ impl Store {
             &mut self.head,
             row.area(),
         ))?;
-        let stamp = stamp_in(row.area());
-        let slots = counted_slots(&self.log, &self.head)?;
-        let position = slots.partition_point(|slot| stamp_in(slot) < stamp);
-        self.fates.insert_unknown(position);
-        Ok(())
+        self.note_fate(stamp_in(row.area()), None)
     }
 
     /// Removes the rows whose stamps are at or below the cutoff and gives how many.
@@ -548,6 +588,36 @@ mod tests {
         assert_eq!(store.logged()?, [row]);
         assert_eq!((store.held_len(), store.floor()), (Ok(0), Ok(None)));
         assert_eq!(store.compacted()?, compacted);
+        Ok(())
+    }
+
+    #[test]
+    fn there_are_as_many_watermarks_as_authors() -> Result<(), Refusal> {
+        let mut store = Store::with_capacity(MAX_AUTHORS)?;
+        assert_eq!(store.watermarks(), Ok(Vec::new()));
+        for author in (1..=MAX_AUTHORS as u64).rev() {
+            // Also that of an author without a number in the clock.
+            let stamp = Timestamp::new(author, u32::MAX, ActorId(author + 1));
+            let row = Row {
+                actor: ActorId(author),
+                ..Row::new(stamp, author % 2, "")
+            };
+            store.insert(&Slot::logged(&row)?)?;
+        }
+        let latest = store.watermarks()?;
+        assert_eq!(latest.len(), MAX_AUTHORS);
+        for (author, (of, stamp)) in (1..).zip(&latest) {
+            assert_eq!(*of, ActorId(author));
+            assert_eq!(
+                *stamp,
+                Timestamp::new(author, u32::MAX, ActorId(author + 1))
+            );
+            assert_eq!(store.watermark(*of), Ok(Some(*stamp)));
+        }
+        let (log, held, mut head) = store.into_areas();
+        head[WATERMARKS + 7] = 33;
+        let damaged = Store::from_areas(log, held, head);
+        assert_eq!(damaged.watermarks(), Err(Refusal::UnsoundStore));
         Ok(())
     }
 

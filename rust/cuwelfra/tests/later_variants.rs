@@ -82,6 +82,7 @@ impl Dated for Refusal {
             Self::AuthorsFull | Self::CounterOverflow | Self::RemoteAhead { .. } => Since::Now,
             Self::UnaskedPong | Self::Truncated | Self::VarintOverflow => Since::Now,
             Self::TooLarge | Self::TrailingBytes => Since::Now,
+            Self::OperationTooLarge | Self::SequenceExhausted | Self::OtherCauses => Since::Now,
             Self::UnknownAnswer(_) | Self::MisfitAnswer => Since::Now,
             _ => Since::Later,
         }

@@ -7,9 +7,10 @@ use std::{error, fmt, io};
 use cuwelfra::{FileError, Refusal};
 
 use crate::advice::advice;
-use crate::plain::{command, name, shell};
+use crate::plain::{command, name, plain, shell, with_command};
 use crate::refused::Refused;
-use crate::text::Unreadable;
+use crate::table::indented;
+use crate::text::{Fault, Unreadable};
 
 /// Why a command has no answer. None of them has changed a store.
 #[derive(Debug)]
@@ -21,12 +22,21 @@ pub enum Error {
     Usage {
         name: &'static str,
         words: &'static str,
+        /// What is not among them, where that can be said.
+        lacking: &'static str,
+    },
+    /// An option with its word behind `=`.
+    Joined {
+        option: String,
+        value: String,
     },
     /// A word that is not what it should be.
     Word {
         word: OsString,
         wanted: &'static str,
     },
+    /// A word that is no payload and no signature.
+    Payload(OsString, Fault),
     /// Standard input is named more than once.
     InputTwice,
     /// The machine's time cannot be had.
@@ -49,6 +59,12 @@ pub enum Error {
         /// What the peers' acknowledgements say.
         why: String,
     },
+    /// Something speaks against adding rows.
+    Doubted {
+        file: PathBuf,
+        /// What, each in words.
+        why: Vec<String>,
+    },
     Refused(Refusal),
 }
 
@@ -62,14 +78,31 @@ impl fmt::Display for Error {
             Self::UnknownOption(word) => {
                 write!(
                     f,
-                    "no option {} here, or it stands twice; --help lists them. Behind -- a word is a name, whatever it \
+                    "no option {} here, or it stands twice; --help lists them. Behind -- a word is no option, whatever it \
                      begins with",
                     name(word)
                 )
             }
-            Self::Usage { name, words: "" } => write!(f, "write ./run {name}"),
-            Self::Usage { name, words } => write!(f, "write ./run {name} {words}"),
-            Self::Word { word, wanted } => write!(f, "`{}` is no {wanted}", name(word)),
+            Self::Usage {
+                name,
+                words,
+                lacking,
+            } => {
+                let lacking = match lacking.is_empty() {
+                    true => String::new(),
+                    false => format!("{lacking}; "),
+                };
+                let line = format!("{lacking}write {} {name} {words}", command());
+                write!(f, "{}", line.trim_end())
+            }
+            Self::Joined { option, value } => {
+                let value = plain(value);
+                write!(f, "write {option} {value}, not {option}={value}")
+            }
+            Self::Word { word, wanted } => {
+                write!(f, "`{}` is no {}", name(word), with_command(wanted))
+            }
+            Self::Payload(word, _) => write!(f, "the word `{}`", name(word)),
             Self::InputTwice => write!(f, "- stands for standard input, which is read once"),
             Self::Clock => write!(
                 f,
@@ -102,6 +135,11 @@ impl fmt::Display for Error {
                  --dry-run lists what would go; --force removes it all the same",
                 name(file)
             ),
+            Self::Doubted { file, why } => {
+                let why: String = why.iter().map(|why| indented(why)).collect();
+                let file = name(file);
+                write!(f, "{file}: nothing is added without --force:\n{}", why.trim_end())
+            }
             Self::Refused(_) => write!(f, "a call was refused"),
         }
     }
@@ -113,6 +151,7 @@ impl error::Error for Error {
             Self::Read(_, error) | Self::Write(_, error) => Some(error),
             // Where it stands is said with the file.
             Self::Text(_, unreadable) => unreadable.source(),
+            Self::Payload(_, fault) => Some(fault),
             Self::Batch(_, refused) => Some(refused),
             Self::File(_, error) => Some(error),
             Self::Refused(refusal) => Some(refusal),
@@ -120,13 +159,15 @@ impl error::Error for Error {
             | Self::UnknownCommand(_)
             | Self::UnknownOption(_)
             | Self::Usage { .. }
+            | Self::Joined { .. }
             | Self::Word { .. }
             | Self::InputTwice
             | Self::Clock
             | Self::NoRow(_)
             | Self::NoStore(_)
             | Self::NoCutoff
-            | Self::Unsafe { .. } => None,
+            | Self::Unsafe { .. }
+            | Self::Doubted { .. } => None,
         }
     }
 }
@@ -141,7 +182,7 @@ impl Error {
             cause = error.source();
         }
         match self.refusal() {
-            Some(refusal) => format!("{text}. {}", advice(refusal).advice),
+            Some(refusal) => format!("{text}. {}", with_command(advice(refusal).advice)),
             None => text,
         }
     }

@@ -53,6 +53,11 @@ pub fn command() -> String {
     name.map_or("./run".to_owned(), |name| shell(Path::new(&name)))
 }
 
+/// A text of this program in which commands begin as this one did.
+pub fn with_command(text: &str) -> String {
+    text.replace("./run", &command())
+}
+
 /// Text with a backslash before the letters that `marked` has, and without what is not printed.
 fn escaped(bytes: &[u8], marked: impl Fn(char) -> bool) -> String {
     let mut text = String::new();

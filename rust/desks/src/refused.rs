@@ -72,6 +72,11 @@ fn unfit(refusal: Refusal, offer: &Offer) -> Refused {
     }
 }
 
+/// What is said of something that has more than it may.
+pub fn above(what: &str, size: usize, unit: &str, most: usize) -> Option<String> {
+    (size > most).then(|| format!("{what} {size} {unit}, at most {most}"))
+}
+
 fn misfits(row: &Row) -> Vec<String> {
     let Row {
         deps,
@@ -79,19 +84,16 @@ fn misfits(row: &Row) -> Vec<String> {
         signature,
         ..
     } = row;
-    let above = |what: &str, size: usize, unit: &str, most: usize| {
-        (size > most).then(|| format!("{what} has {size} {unit}, at most {most}"))
-    };
     let rise = deps.is_sorted_by(|one, next| one.0 < next.0);
     let turned = (!rise).then(|| {
         let deps = pairs(deps);
         format!("the authors of the dependencies {deps} do not rise")
     });
     let misfits = [
-        above("the row", deps.len(), "dependencies", MAX_DEPS),
+        above("the row has", deps.len(), "dependencies", MAX_DEPS),
         turned,
-        above("the payload", payload.len(), "bytes", MAX_PAYLOAD),
-        above("the signature", signature.len(), "bytes", MAX_SIGNATURE),
+        above("the payload has", payload.len(), "bytes", MAX_PAYLOAD),
+        above("the signature has", signature.len(), "bytes", MAX_SIGNATURE),
     ];
     misfits.into_iter().flatten().collect()
 }

@@ -5,9 +5,10 @@ use cuwelfra::{ActorId, Fate, Limits, Row, Timestamp};
 use crate::advice::{advice, Advice};
 use crate::calls::{Accepted, Told};
 use crate::notice::{News, Notice, Waited};
-use crate::plain::plain;
+use crate::plain::{plain, with_command};
+use crate::refused::Refused;
 use crate::store::{kept_until, Logged, View, Waiting};
-use crate::table::{indented, or_dash, paragraph, Table};
+use crate::table::{indented, one_line, or_dash, paragraph, Table};
 use crate::text::{self, answer, id, pairs};
 use crate::time;
 
@@ -89,21 +90,43 @@ fn logged(logged: &[cuwelfra::Logged]) -> String {
 /// Authors and sequences, with what stands behind each. Three or more rows of one author whose numbers follow each other
 /// and that have the same behind them are a range.
 fn ranges(rows: &[(ActorId, u64, String)]) -> String {
+    let ranges = counted_ranges(rows).into_iter().map(|(range, _)| range);
+    ranges.collect::<Vec<_>>().join(", ")
+}
+
+/// Rows by their numbers, the first five ranges of them, and how many more there are.
+pub fn few(rows: impl Iterator<Item = (ActorId, u64)>) -> String {
+    let mut rows: Vec<_> = rows
+        .map(|(actor, seq)| (actor, seq, String::new()))
+        .collect();
+    rows.sort();
+    let mut ranges = counted_ranges(&rows);
+    let rest = ranges.split_off(ranges.len().min(5));
+    let first: Vec<String> = ranges.into_iter().map(|(range, _)| range).collect();
+    match rest.iter().map(|(_, count)| count).sum::<usize>() {
+        0 => first.join(", "),
+        more => format!("{} and {more} more", first.join(", ")),
+    }
+}
+
+/// Ranges, and of how many rows each is.
+fn counted_ranges(rows: &[(ActorId, u64, String)]) -> Vec<(String, usize)> {
     let follows = |one: &(ActorId, u64, String), next: &(ActorId, u64, String)| {
         (one.0, &one.2) == (next.0, &next.2) && one.1.checked_add(1) == Some(next.1)
     };
     let ranges = rows.chunk_by(follows).flat_map(|range| match range {
         [(actor, seq, behind), .., (_, last, _)] if range.len() > 2 => {
-            vec![format!("{}-{last}{behind}", id(*actor, *seq))]
+            let text = format!("{}-{last}{behind}", id(*actor, *seq));
+            vec![(text, range.len())]
         }
         rows => {
             let row = |(actor, seq, behind): &(ActorId, u64, String)| {
-                format!("{}{behind}", id(*actor, *seq))
+                (format!("{}{behind}", id(*actor, *seq)), 1)
             };
             rows.iter().map(row).collect()
         }
     });
-    ranges.collect::<Vec<_>>().join(", ")
+    ranges.collect()
 }
 
 /// What became of a logged row, in a word.
@@ -259,6 +282,18 @@ fn not_compared(told: &[Told]) -> String {
     section(title, paragraph(&list))
 }
 
+/// What was refused, what of it is at fault, what that means and what to do.
+pub fn refusal(what: &str, refused: &Refused, advice: &Advice) -> String {
+    let faults = refused.faults.iter();
+    let faults: String = faults.map(|fault| format!("    {fault}\n")).collect();
+    format!(
+        "{}{faults}{}{}",
+        one_line(&format!("{what}: {}", refused.refusal)),
+        indented(&with_command(advice.meaning)),
+        indented(&with_command(advice.advice))
+    )
+}
+
 /// The batches that were refused, what to do about each, and the rows that were left out with them.
 fn refused(told: &[Told]) -> String {
     let refused: Vec<_> = told
@@ -270,11 +305,7 @@ fn refused(told: &[Told]) -> String {
     }
     let mut text = "\nRefused, with nothing of the batch taken:\n\n".to_owned();
     for (Told { batch, .. }, refused) in &refused {
-        text += &format!("{batch}: {}\n", refused.refusal);
-        let faults = refused.faults.iter();
-        text.extend(faults.map(|fault| format!("    {fault}\n")));
-        let Advice { meaning, advice } = advice(refused.refusal);
-        text += &(indented(meaning) + &indented(advice));
+        text += &refusal(batch, refused, &advice(refused.refusal));
     }
     let rows = refused.iter().flat_map(|(told, _)| {
         let rows = told.offer.rows.iter().enumerate();
@@ -364,6 +395,22 @@ pub fn rows<'a>(rows: impl Iterator<Item = &'a Logged>) -> Table {
         &["fate"],
         rows.map(|logged| (vec![fate(logged.fate)], &logged.row)),
     )
+}
+
+/// Rows that are new, with their fates. What they depend on is all that was logged: the payload has its room.
+pub fn added(rows: &[Logged]) -> Table {
+    let line = |Logged { row, fate }: &Logged| {
+        vec![
+            self::fate(*fate),
+            stamp(row.timestamp),
+            id(row.actor, row.seq),
+            plain(&row.payload),
+        ]
+    };
+    Table {
+        titles: vec!["fate", "stamp", "row", "payload"],
+        rows: rows.iter().map(line).collect(),
+    }
 }
 
 /// Rows with columns before them.

@@ -32,6 +32,10 @@ impl Change {
     /// Begins to change a store; an empty one where there is no file.
     pub fn begin(file: PathBuf) -> Result<Self, Error> {
         is_name(&file, WANTED)?;
+        // Beside a file that is no store no lock is left.
+        if file.is_file() {
+            load(&file)?;
+        }
         let told = |error| Error::File(file.clone(), error);
         let update = Update::begin(&file).map_err(told)?;
         let found = update.load().map_err(told)?;

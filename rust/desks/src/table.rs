@@ -108,7 +108,7 @@ fn places(letter: char) -> usize {
 }
 
 /// Text that takes no more than so many places.
-fn cut(text: &str, most: usize) -> String {
+pub fn cut(text: &str, most: usize) -> String {
     if width(text) <= most {
         return text.to_owned();
     }
@@ -161,11 +161,20 @@ pub fn indented(text: &str) -> String {
     lines("    ", text)
 }
 
+/// A line that only a narrow screen breaks: names of files may be in it.
+pub fn one_line(text: &str) -> String {
+    match screen::columns() {
+        Some(_) => paragraph(text),
+        None => format!("{text}\n"),
+    }
+}
+
 fn lines(before: &str, text: &str) -> String {
     let most = screen::columns().unwrap_or(usize::MAX).clamp(24, 120) - before.len();
     let mut lines = Vec::new();
     let mut line = String::new();
-    for word in text.split_whitespace() {
+    // Blanks of a payload stay as many as they are.
+    for word in text.split(' ') {
         if !line.is_empty() && width(&line) + width(word) >= most {
             lines.push(std::mem::take(&mut line));
         }

@@ -8,7 +8,7 @@ use crate::text;
 const SECOND: u64 = 1_000;
 const MINUTE: u64 = 60 * SECOND;
 const HOUR: u64 = 60 * MINUTE;
-const DAY: u64 = 24 * HOUR;
+pub const DAY: u64 = 24 * HOUR;
 
 /// The machine's time since the start of 1970.
 pub fn now() -> Result<u64, Error> {
@@ -25,6 +25,17 @@ pub fn span(word: &str) -> Option<u64> {
         .find_map(|(letter, ms)| Some((word.strip_suffix(*letter)?, *ms)));
     let (digits, ms) = unit.unwrap_or((word, 1));
     text::number::<u64>("", digits).ok()?.checked_mul(ms)
+}
+
+/// A span in whole days, hours, minutes or seconds: the longest of these that it has at least one of.
+pub fn about(ms: u64) -> String {
+    let units = [(DAY, "day"), (HOUR, "hour"), (MINUTE, "minute")];
+    let unit = units.into_iter().find(|(unit, _)| ms >= *unit);
+    let (unit, word) = unit.unwrap_or((SECOND, "second"));
+    match ms / unit {
+        1 => format!("1 {word}"),
+        count => format!("{count} {word}s"),
+    }
 }
 
 /// A time as date and time of day, UTC; behind the year 9999 in ms.
@@ -80,6 +91,23 @@ mod tests {
         ];
         for (ms, text) in times {
             assert_eq!(shown(ms), text);
+        }
+    }
+
+    #[test]
+    fn spans_in_words() {
+        let spans = [
+            (0, "0 seconds"),
+            (1_999, "1 second"),
+            (59_999, "59 seconds"),
+            (60_000, "1 minute"),
+            (600_000, "10 minutes"),
+            (7_200_000, "2 hours"),
+            (172_799_999, "1 day"),
+            (u64::MAX, "213503982334 days"),
+        ];
+        for (ms, text) in spans {
+            assert_eq!(about(ms), text);
         }
     }
 

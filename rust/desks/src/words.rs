@@ -3,10 +3,11 @@
 use std::ffi::{OsStr, OsString};
 use std::path::PathBuf;
 
-use cuwelfra::{Limits, Timestamp};
+use cuwelfra::{ActorId, Limits, Timestamp};
 
 use crate::calls::Settings;
 use crate::error::Error;
+use crate::own::Writer;
 use crate::{text, time};
 
 /// The words that were given, and those that the command takes, as the help writes them.
@@ -15,7 +16,7 @@ pub struct Words {
     wanted: &'static str,
     /// Options and names.
     given: Vec<OsString>,
-    /// The words behind `--`: names, whatever they begin with.
+    /// The words behind `--`: no options, whatever they begin with.
     names: Vec<OsString>,
 }
 
@@ -104,10 +105,55 @@ impl Words {
         Ok(Settings {
             time_ms: self.time()?,
             replay: self.flag("--replay"),
-            limits: self
-                .age(Limits::new())?
-                .with_max_drift_ms(self.span("--drift")?.unwrap_or(Limits::new().max_drift_ms)),
+            limits: self.age(Limits::new())?.with_max_drift_ms(self.drift()?),
         })
+    }
+
+    /// Takes the options out that say who writes rows, and when. Somebody has to be named.
+    pub fn writer(&mut self) -> Result<Writer, Error> {
+        let author = self.read(
+            "--author",
+            "author, which is a whole number below 2^64",
+            whole,
+        )?;
+        let author = author.ok_or_else(|| self.no_author())?;
+        Ok(Writer {
+            author: ActorId(author),
+            timed: self.position("--time").is_some(),
+            time_ms: self.time()?,
+            max_drift_ms: self.drift()?,
+        })
+    }
+
+    /// What is said where nobody is named: where no word is given either, what all of them should be.
+    fn no_author(&self) -> Error {
+        let joined = self.given.iter().find_map(|word| self.joined(word));
+        match joined {
+            Some(error) => error,
+            None if self.given.is_empty() => self.usage(),
+            None => self.lacking("--author is missing"),
+        }
+    }
+
+    /// What is said of an option of this command with `=` and its word behind it.
+    fn joined(&self, word: &OsStr) -> Option<Error> {
+        let (option, value) = word.to_str()?.split_once('=')?;
+        let times = match self.wanted.contains("[TIMES]") {
+            true => "--time --age --drift",
+            false => "",
+        };
+        let mut options = [self.wanted, times]
+            .into_iter()
+            .flat_map(|words| words.split(['[', ']', ' ']));
+        let known = option.starts_with("--") && options.any(|known| known == option);
+        let (option, value) = (option.to_owned(), value.to_owned());
+        known.then_some(Error::Joined { option, value })
+    }
+
+    /// Takes out how far ahead of the time a stamp may be.
+    fn drift(&mut self) -> Result<u64, Error> {
+        let span = self.span("--drift")?;
+        Ok(span.unwrap_or(Limits::new().max_drift_ms))
     }
 
     /// Takes the time out that a command goes by: the machine's where none is given.
@@ -142,13 +188,14 @@ impl Words {
         self.rest()?.try_into().map_err(|_| usage)
     }
 
-    /// All words, of which none is an option: one and then at least one more.
-    pub fn one_and_more(self) -> Result<(PathBuf, Vec<OsString>), Error> {
-        let usage = self.usage();
+    /// All words, of which none is an option: one and then at least one more; what is said where there is none.
+    pub fn one_and_more(self, lacking: &'static str) -> Result<(PathBuf, Vec<OsString>), Error> {
+        let (usage, lacking) = (self.usage(), self.lacking(lacking));
         let mut words = self.rest()?.into_iter();
         match words.next() {
             Some(first) if words.len() > 0 => Ok((first.into(), words.collect())),
-            _ => Err(usage),
+            Some(_) => Err(lacking),
+            None => Err(usage),
         }
     }
 
@@ -165,15 +212,24 @@ impl Words {
     /// All words, of which none is an option.
     pub fn rest(self) -> Result<Vec<OsString>, Error> {
         match self.given.iter().find(|word| is_option(word)) {
-            Some(word) => Err(Error::UnknownOption(word.clone())),
+            Some(word) => Err(match self.joined(word) {
+                Some(joined) => joined,
+                None => Error::UnknownOption(word.clone()),
+            }),
             None => Ok([self.given, self.names].concat()),
         }
     }
 
     pub fn usage(&self) -> Error {
+        self.lacking("")
+    }
+
+    /// What the words should be, and what is not among them.
+    fn lacking(&self, lacking: &'static str) -> Error {
         Error::Usage {
             name: self.name,
             words: self.wanted,
+            lacking,
         }
     }
 }

@@ -1,9 +1,12 @@
 //! The program as a shell starts it: standard input, the screen, and what it leaves with.
 
+use std::ffi::OsStr;
 use std::fs::{self, File};
 use std::io::{self, Read, Write};
+use std::os::unix::ffi::OsStrExt;
 use std::path::PathBuf;
 use std::process::{Command, Output, Stdio};
+use std::time::UNIX_EPOCH;
 
 const PROGRAM: &str = env!("CARGO_BIN_EXE_desks");
 
@@ -27,6 +30,19 @@ impl Folder {
 
     fn run(&self, line: &str) -> Output {
         self.command(line).output().expect("a program")
+    }
+
+    /// What it prints on a screen that has so many columns.
+    fn on_screen(&self, line: &str, columns: &str) -> String {
+        let screen = Command::new("script")
+            .current_dir(&self.0)
+            .env("COLUMNS", columns)
+            .env("CUWELFRA_COMMAND", PROGRAM)
+            .args(["-qec", &format!("{PROGRAM} {line}"), "/dev/null"])
+            .stdin(Stdio::null())
+            .output()
+            .expect("util-linux's script");
+        printed(&screen).replace('\r', "")
     }
 
     /// Runs it with this text as standard input.
@@ -126,6 +142,53 @@ fn each_status() {
     );
 }
 
+/// Rows at the machine's time; whole or not at all, and never below what is there.
+#[test]
+fn adding_rows() {
+    let folder = Folder::new("adding");
+    let add = |payloads: &[&OsStr]| {
+        let mut command = folder.command("add s.store --author 7");
+        command.args(payloads).output().expect("a program")
+    };
+    let before = UNIX_EPOCH.elapsed().expect("a time").as_millis();
+    let told = add(&["Kette = chain".as_ref(), "Rad = wheel".as_ref()]);
+    assert_eq!(told.status.code(), Some(0), "{}", said(&told));
+    let log = printed(&folder.run("log s.store"));
+    let walls = log.lines().filter_map(|line| {
+        let (wall, _) = line.split_once("applied  ")?.1.split_once('/')?;
+        wall.parse::<u128>().ok()
+    });
+    let walls: Vec<u128> = walls.collect();
+    let after = UNIX_EPOCH.elapsed().expect("a time").as_millis();
+    assert!(
+        walls.len() == 2 && walls.iter().all(|wall| (before..=after).contains(wall)),
+        "{log}"
+    );
+    let long = "p".repeat(300);
+    let told = add(&["Felge = rim".as_ref(), long.as_ref()]);
+    assert_eq!((told.status.code(), said(&told).as_str()), (Some(1), ""));
+    assert!(
+        printed(&told).contains("refusal 26, "),
+        "{}",
+        printed(&told)
+    );
+    let told = add(&["".as_ref()]);
+    assert_eq!((told.status.code(), printed(&told).as_str()), (Some(2), ""));
+    assert!(
+        said(&told).starts_with("./run: the word ``: a payload without "),
+        "{}",
+        said(&told)
+    );
+    let told = add(&[OsStr::from_bytes(b"a\xff")]);
+    assert_eq!(told.status.code(), Some(2));
+    assert!(
+        said(&told).starts_with("./run: the word `a\\xff`: not UTF-8 text"),
+        "{}",
+        said(&told)
+    );
+    assert_eq!(printed(&folder.run("log s.store")), log);
+}
+
 /// Suggested commands and errors begin as the command did.
 #[test]
 fn commands_are_suggested_as_they_were_given() {
@@ -153,6 +216,22 @@ fn commands_are_suggested_as_they_were_given() {
         .output();
     let told = said(&told.expect("a program"));
     assert!(told.starts_with("/top/run: no.store: "), "{told}");
+    // So do usage and advice.
+    let texts = [
+        ("add", "/top/run: write /top/run add STORE --author N "),
+        ("explain 99", "; /top/run explain lists them"),
+        ("explain 26", "no row by `/top/run add`: "),
+        ("explain 14", ": `/top/run held` names it."),
+    ];
+    for (line, text) in texts {
+        let told = folder
+            .command(line)
+            .env("CUWELFRA_COMMAND", "/top/run")
+            .output()
+            .expect("a program");
+        let told = (printed(&told) + &said(&told)).replace("\n    ", " ");
+        assert!(told.contains(text) && !told.contains("./run"), "{told}");
+    }
 }
 
 /// Who reads nothing of an answer is told it all the same where a row is to be looked at.
@@ -193,15 +272,7 @@ fn a_screen_is_not_overrun() {
         .output()
         .expect("a program");
     assert!(printed(&whole).contains(term));
-    let line = format!("{PROGRAM} log s.store");
-    let screen = Command::new("script")
-        .current_dir(&folder.0)
-        .env("COLUMNS", "60")
-        .args(["-qec", &line, "/dev/null"])
-        .stdin(Stdio::null())
-        .output()
-        .expect("util-linux's script");
-    let shown = printed(&screen).replace('\r', "");
+    let shown = folder.on_screen("log s.store", "60");
     assert!(
         shown.contains("Donaudampf") && !shown.contains(term),
         "{shown}"
@@ -215,6 +286,26 @@ fn a_screen_is_not_overrun() {
         table.len() == 3 && table.iter().all(|line| line.chars().count() <= 60),
         "{shown}"
     );
+}
+
+/// What `add` tells is broken to the screen, but for commands, and the payload has room beside rows of six authors.
+#[test]
+fn adding_on_a_screen() {
+    let folder = Folder::new("add-screen");
+    let rows = (1..=6).map(|author| format!("{author} 0 {author} 1 - x\n"));
+    folder.run_with("join s.store -", &rows.collect::<String>());
+    let term = "Fahrradschlauch = bicycle inner tube";
+    let shown = folder.on_screen(&format!("add s.store --author 1 '{term}'"), "80");
+    assert!(shown.contains(&format!("  1:2  {term}\n")), "{shown}");
+    let long = "p".repeat(257);
+    for line in [
+        "add s.store --author 1 x".to_owned(),
+        format!("add s.store --author 1 '{long}'"),
+    ] {
+        let shown = folder.on_screen(&line, "70");
+        let mut lines = shown.lines().filter(|line| !line.contains(PROGRAM));
+        assert!(lines.all(|line| line.chars().count() <= 70), "{shown}");
+    }
 }
 
 /// A program that is killed while it changes a store stops nobody after it.

@@ -1,6 +1,8 @@
 //! How often calls were accepted, refused with each number, and moved rows in each way.
 
-use cuwelfra_sys::MergeTold;
+use std::collections::BTreeMap;
+
+use cuwelfra_sys::{MergeTold, Told};
 
 use crate::support::{note, Outcome};
 
@@ -12,6 +14,8 @@ pub struct Census {
     accepted: u64,
     refused: [u64; REFUSALS + 1],
     moved: [u64; 7],
+    /// Rows of the desk's own, prepared and sealed or sealed as they are.
+    pub own: Numbers,
 }
 
 /// What accepted calls do to rows.
@@ -77,5 +81,30 @@ impl Census {
             return Err("a refusal or a move never occurred".into());
         }
         Ok(self.calls())
+    }
+}
+
+/// How often calls were accepted, 0, or refused with each number.
+#[derive(Default)]
+pub struct Numbers(BTreeMap<u64, u64>);
+
+impl Numbers {
+    pub fn note(&mut self, told: &Told) {
+        *self.0.entry(told.number).or_default() += 1;
+    }
+
+    /// Prints the counts. Requires that each of these numbers occurred.
+    pub fn finish(&self, what: &str, numbers: &[u64]) -> Outcome {
+        let accepted = self.0.get(&0).copied().unwrap_or(0);
+        let refused = self.0.iter().filter(|(number, _)| **number > 0);
+        let refused: Vec<String> = refused.map(|(i, n)| format!("{i}: {n}")).collect();
+        note(&format!(
+            "{what}: accepted {accepted}; refused by number {}",
+            refused.join(", ")
+        ));
+        match numbers.iter().find(|number| !self.0.contains_key(number)) {
+            Some(number) => Err(format!("  {what}: {number} never occurred")),
+            None => Ok(self.0.values().sum()),
+        }
     }
 }

@@ -11,7 +11,7 @@ use std::path::{Path, PathBuf};
 use oracle::open::PORTED;
 
 /// The crates with the counterparts of each file.
-const CRATES: [(&str, &[&str]); 9] = [
+const CRATES: [(&str, &[&str]); 10] = [
     ("src/stubs/mod.rs", &["stubs"]),
     ("src/error.rs", &["error"]),
     ("src/codec.rs", &["codec", "row"]),
@@ -21,6 +21,7 @@ const CRATES: [(&str, &[&str]); 9] = [
     ("src/sync.rs", &["sync", "codec"]),
     ("src/peer.rs", &["peer"]),
     ("src/merge.rs", &["merge", "batch", "log"]),
+    ("src/engine.rs", &["engine"]),
 ];
 
 /// Counterparts of another name: a refusal for an error, a call over an area or a position for a type.
@@ -48,7 +49,7 @@ const RENAMED: [(&str, &str); 17] = [
     ("Envelope::decode", "decode_envelope"),
 ];
 /// Errors whose counterpart is `Refusal`.
-const ERRORS: [&str; 3] = ["CodecError", "ClockError", "MergeError"];
+const ERRORS: [&str; 4] = ["CodecError", "ClockError", "MergeError", "EngineError"];
 
 #[test]
 fn nothing_is_left_out_in_silence() {

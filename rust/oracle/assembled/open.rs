@@ -117,7 +117,7 @@ impl Writer {
 }
 
 /// The texts of the ported files.
-pub const PORTED: [(&str, &str); 9] = [
+pub const PORTED: [(&str, &str); 10] = [
     ("src/stubs/mod.rs", include_str!("stubs/mod.rs")),
     ("src/error.rs", include_str!("error.rs")),
     ("src/codec.rs", include_str!("codec.rs")),
@@ -127,4 +127,5 @@ pub const PORTED: [(&str, &str); 9] = [
     ("src/sync.rs", include_str!("sync.rs")),
     ("src/peer.rs", include_str!("peer.rs")),
     ("src/merge.rs", include_str!("merge.rs")),
+    ("src/engine.rs", include_str!("engine.rs")),
 ];

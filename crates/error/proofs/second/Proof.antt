@@ -1,8 +1,6 @@
 use borrow.Author.Needs.{needs}
 use Rattle.error.proofs.second.Statement.{statement}
 use Rattle.error.proofs.second.Tie as tie
-use Rattle.error.proofs.second.Reads as reads
-use Rattle.error.proofs.second.Lts as lts
 
 enum-told : tie.Need-enum-told
 enum-told c = search needs
@@ -79,6 +77,15 @@ enum-told-13 c = search needs
 enum-told-14 : tie.Need-enum-told-14
 enum-told-14 c = search needs
 
+enum-told-15 : tie.Need-enum-told-15
+enum-told-15 c = search needs
+
+enum-told-16 : tie.Need-enum-told-16
+enum-told-16 c = search needs
+
+enum-told-17 : tie.Need-enum-told-17
+enum-told-17 c = search needs
+
 returns : tie.Need-returns
 returns c = rw (c .enum-told .given .1)
 
@@ -154,6 +161,15 @@ returns-24 c = rw (c .enum-told13 .given .1)
 returns-25 : tie.Need-returns-25
 returns-25 c = rw (c .enum-told14 .given .1)
 
+returns-26 : tie.Need-returns-26
+returns-26 c = rw (c .enum-told15 .given .1)
+
+returns-27 : tie.Need-returns-27
+returns-27 c = rw (c .enum-told16 .given .1)
+
+returns-28 : tie.Need-returns-28
+returns-28 c = rw (c .enum-told17 .given .1)
+
 pub second-spec : {M : Type 1} → statement M
 second-spec =
     tie.close
@@ -183,6 +199,9 @@ second-spec =
     enum-told-12
     enum-told-13
     enum-told-14
+    enum-told-15
+    enum-told-16
+    enum-told-17
     returns
     returns-2
     returns-3
@@ -207,4 +226,7 @@ second-spec =
     returns-22
     returns-23
     returns-24
-    returns-25)
+    returns-25
+    returns-26
+    returns-27
+    returns-28)

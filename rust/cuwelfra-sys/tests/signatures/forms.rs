@@ -110,12 +110,12 @@ const NUMBERS: [&str; 9] = [
 ];
 const POINTERS: [&str; 2] = ["*const u8", "*mut u8"];
 
-/// Types that are neither a number, nor a pointer to bytes, nor a struct that the source declares.
+/// Types that are neither a number or an array of one, nor a pointer to bytes, nor a struct that the source declares.
 fn undeclared(source: &Source) -> Vec<String> {
     let mut found = Vec::new();
     for one in source.functions.iter().chain(&source.structs) {
         for spelling in spellings(one) {
-            let is_plain = NUMBERS.contains(&spelling) || POINTERS.contains(&spelling);
+            let is_plain = NUMBERS.contains(&element(spelling)) || POINTERS.contains(&spelling);
             if !is_plain && named(&source.structs, spelling).is_none() {
                 let (label, name) = (source.label, &one.name);
                 found.push(format!(
@@ -125,6 +125,14 @@ fn undeclared(source: &Source) -> Vec<String> {
         }
     }
     found
+}
+
+/// What an array is of, and any other type itself.
+fn element(spelling: &str) -> &str {
+    let array = spelling
+        .strip_prefix('[')
+        .and_then(|rest| rest.split_once(';'));
+    array.map_or(spelling, |(element, _)| element)
 }
 
 /// The types that a declaration names.

@@ -127,9 +127,12 @@ fn function(cursor: &mut Cursor) -> Result<Declaration, String> {
     })
 }
 
-/// A type and the name behind it.
+/// A type and the name behind it, and behind that how many there are of an array.
 fn item(tokens: &[&str]) -> Result<Item, String> {
     match tokens {
+        [kind @ .., name, "[", count, "]"] => {
+            Ok((name.to_string(), format!("[{};{count}]", spelling(kind)?)))
+        }
         [kind @ .., name] => Ok((name.to_string(), spelling(kind)?)),
         [] => Err("a declaration without a name".to_string()),
     }

@@ -250,6 +250,27 @@ fn another_width_or_sign_is_named() {
     assert_eq!(in_sys("at: u64", "at: usize").len(), 1);
 }
 
+/// A struct that has an array in all three texts.
+#[test]
+fn another_array_is_named() {
+    let with = |header: &str, sys: &str| {
+        let mut texts = sound();
+        plant(&mut texts.rattle[0], "next: u64", "next: [u64; 16]");
+        plant(&mut texts.header, "uint64_t next", header);
+        plant(&mut texts.sys[0], "next: u64", sys);
+        texts.differences()
+    };
+    assert_eq!(with("uint64_t next[16]", "next: [u64; 16]"), [""; 0]);
+    assert_eq!(
+        with("uint64_t next[15]", "next: [u64; 16]"),
+        ["Written: field 2 is `next: [u64;16]` in the Rattle source and `next: [u64;15]` in the header"]
+    );
+    assert_eq!(with("uint32_t next[16]", "next: [u64; 16]").len(), 1);
+    assert_eq!(with("uint64_t next", "next: [u64; 16]").len(), 1);
+    assert_eq!(with("uint64_t next[16]", "next: [u64; 17]").len(), 1);
+    assert_eq!(with("uint64_t next[16]", "next: [Other; 16]").len(), 2);
+}
+
 #[test]
 fn another_constness_is_named() {
     assert_eq!(

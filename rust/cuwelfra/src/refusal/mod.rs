@@ -1,4 +1,4 @@
-//! Document 01's refusals.
+//! The refusals: document 01's, and document 02's from 26 on.
 
 mod table;
 
@@ -11,7 +11,7 @@ pub use table::{Explained, Refusal};
 use table::{EXPLAINED, MISFIT, UNKNOWN};
 
 impl Refusal {
-    /// How many refusals document 01 has.
+    /// How many refusals there are.
     pub const COUNT: usize = EXPLAINED.len();
 
     /// `Ok` for number 0, else the refusal that an exported call told.
@@ -22,12 +22,12 @@ impl Refusal {
         }
     }
 
-    /// Document 01's number.
+    /// Its number.
     pub fn number(self) -> u64 {
         self.told().number
     }
 
-    /// Document 01's word.
+    /// Its word.
     pub fn word(self) -> &'static str {
         self.explained().word
     }
@@ -42,7 +42,7 @@ impl Refusal {
         self.explained().advice
     }
 
-    /// What document 01's refusal of this number means, whatever its values.
+    /// What the refusal of this number means, whatever its values.
     ///
     /// ```
     /// use cuwelfra::Refusal;
@@ -54,7 +54,7 @@ impl Refusal {
         EXPLAINED.iter().find(|known| known.number == number)
     }
 
-    /// All of document 01's refusals, by number.
+    /// All of them, by number.
     ///
     /// ```
     /// use cuwelfra::Refusal;
@@ -116,7 +116,7 @@ mod tests {
         }
     }
 
-    /// Document 01's list, not the table's.
+    /// The documents' list, not the table's.
     #[test]
     fn every_number_is_there() {
         let words: Vec<&str> = Refusal::all().iter().map(|known| known.word).collect();
@@ -148,10 +148,13 @@ mod tests {
                 "overflow",
                 "too large",
                 "trailing",
+                "operation too large",
+                "sequence exhausted",
+                "other causes",
             ]
         );
         let values = |number| Refusal::explain(number).map(|known| known.values.len());
-        for number in 1..=25 {
+        for number in 1..=28 {
             let carried = match number {
                 5..=13 | 16 | 20 => 2,
                 14 | 15 => 1,
@@ -159,20 +162,20 @@ mod tests {
             };
             assert_eq!(values(number), Some(carried), "{number}");
         }
-        assert_eq!(values(26), None);
+        assert_eq!(values(29), None);
     }
 
     #[test]
-    fn what_document_01_does_not_have_is_handed_on() {
+    fn what_the_documents_do_not_have_is_handed_on() {
         let told = Told {
-            number: 26,
+            number: 29,
             first: 1,
             second: 2,
         };
         let refusal = Refusal::UnknownAnswer(told);
         assert_eq!(Refusal::check(told), Err(refusal));
         assert_eq!(refusal.told(), told);
-        let text = "refusal 26, unknown answer: first value 1, second value 2";
+        let text = "refusal 29, unknown answer: first value 1, second value 2";
         assert_eq!(refusal.to_string(), text);
         assert_eq!(Refusal::check(Told::default()), Ok(()));
     }

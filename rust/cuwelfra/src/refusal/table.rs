@@ -9,9 +9,9 @@ use crate::ActorId;
 #[derive(Clone, Copy, Debug, PartialEq, Eq)]
 #[non_exhaustive]
 pub struct Explained {
-    /// Document 01's number.
+    /// Its number, document 01's or, from 26 on, document 02's.
     pub number: u64,
-    /// Document 01's word.
+    /// Its word.
     pub word: &'static str,
     /// The names of the values that it carries.
     pub values: &'static [&'static str],
@@ -32,7 +32,7 @@ macro_rules! refusals {
             advice: $advice:literal,
         }
     )+) => {
-        /// Why a call was refused: one variant for each of document 01's numbers, and two for a library that this crate
+        /// Why a call was refused: one variant for each of the documents' numbers, and two for a library that this crate
         /// was not made for.
         ///
         /// A refused call changes nothing. [`Refusal::meaning`] and [`Refusal::advice`] say what it means and what to
@@ -77,7 +77,7 @@ macro_rules! refusals {
         }
 
         impl Refusal {
-            /// The number of [`Refusal::MisfitAnswer`]. No refusal of document 01 has it, now or later.
+            /// The number of [`Refusal::MisfitAnswer`]. No refusal of the documents has it, now or later.
             pub const MISFIT: u64 = u64::MAX;
 
             /// The refusal that an exported call told.
@@ -169,25 +169,27 @@ refusals! {
         advice: "Lend an area of the size in docs/LAYOUT.md, or a larger output; more than the size is allowed.",
     }
     3 => Unreadable, "unreadable" {
-        meaning: "A batch does not read: it is cut short, a varint is above 64 bits or a stamp's counter above 32, a \
+        meaning: "A batch, or the bytes of a row to seal, do not read: they are cut short, a varint is above 64 bits or a stamp's counter above 32, a \
                   row's dependencies are not by strictly rising author, a closing byte (verdict, outcome, detail) is \
                   none that there is, or bytes are left over.",
         advice: "Fetch the batch again; where it comes the same, its writer has another layout. No row of it was \
-                 merged.",
+                 merged. Seal the bytes that preparing gave, unchanged.",
     }
     4 => OverCapacity, "over capacity" {
         meaning: "A size or a setting is above its capacity. Sizes: 64 rows in a batch, 16 \
                   dependencies, 256 bytes of payload, 64 of signature, 1,024 rows in a log. Settings: `max_pending` \
                   64, `max_deps` 16, `max_payload` 256.",
-        advice: "Split the batch, leave the row out, or lower the setting.",
+        advice: "Split the batch, leave the row out, lower the setting, or sign with at most 64 bytes.",
     }
     5 => ZeroSequence { actor: ActorId = "author", seq: u64 = "sequence" }, "zero sequence" {
-        meaning: "A row of the batch has sequence 0. An author's rows are numbered from 1.",
-        advice: "Offer the batch without this row; its author has to number it and sign it again.",
+        meaning: "A row of the batch, or the row to seal, has sequence 0. An author's rows are numbered from 1.",
+        advice: "Offer the batch without this row; its author has to number it and sign it again. A row of your own \
+                 is numbered in preparing.",
     }
     6 => ForeignStamp { actor: ActorId = "author", seq: u64 = "sequence" }, "foreign stamp" {
-        meaning: "A row of the batch bears a stamp that another author issued.",
-        advice: "Offer the batch without this row; its author has to stamp it with its own clock and sign it again.",
+        meaning: "A row of the batch, or the row to seal, bears a stamp that another author issued.",
+        advice: "Offer the batch without this row; its author has to stamp it with its own clock and sign it again. \
+                 Prepare a row of your own with its author's hybrid clock.",
     }
     7 => SpentCounter { actor: ActorId = "author", seq: u64 = "sequence" }, "spent counter" {
         meaning: "A row of the batch has a stamp whose counter is 4,294,967,295, the last one, so that no stamp of \
@@ -278,5 +280,23 @@ refusals! {
     25 => TrailingBytes, "trailing" {
         meaning: "Bytes are left over behind what was read.",
         advice: "Look where the frame was cut: it is longer than what it holds. Drop it, or cut it right.",
+    }
+    26 => OperationTooLarge, "operation too large" {
+        meaning: "A row of your own cannot be prepared: its payload has more than 256 bytes, or the log's clock, which \
+                  becomes its dependencies, names more than 16 authors.",
+        advice: "Shorten the payload. A clock keeps its authors: with a 17th this store takes no more rows of its own, \
+                 and still those of batches.",
+    }
+    27 => SequenceExhausted, "sequence exhausted" {
+        meaning: "A row of your own has no next sequence: its author's number in the log's clock, or the number last \
+                  issued, is 2^64 - 1.",
+        advice: "Look whether the number last issued is right. Where it is, this author can write no more.",
+    }
+    28 => OtherCauses, "other causes" {
+        meaning: "The dependencies of the row to seal are not the log's clock: something was logged since it was \
+                  prepared, or it is logged already.",
+        advice: "Look the row up by author and number first: where it is logged with your payload, it is done. Else \
+                 prepare it again, sign the new bytes and seal these. What was signed before must not go out: its \
+                 number comes again with other dependencies.",
     }
 }

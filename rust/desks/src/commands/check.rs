@@ -2,10 +2,11 @@
 
 use std::path::Path;
 
-use cuwelfra::{Fate, MAX_HELD};
+use cuwelfra::{Fate, MAX_AUTHORS, MAX_DEPS, MAX_HELD};
 
 use crate::answer::Answer;
 use crate::error::Error;
+use crate::own::authors;
 use crate::plain::name;
 use crate::show::stamp;
 use crate::store::load;
@@ -20,6 +21,7 @@ pub fn run(words: Words) -> Result<Answer, Error> {
          logged     {} of {} rows\n\
          fates      {}\n\
          held       {} of {MAX_HELD} rows\n\
+         authors    {} of {MAX_AUTHORS}; rows can be added with up to {MAX_DEPS}\n\
          clock      {}\n\
          compacted  {}\n\
          floor      {}\n",
@@ -28,6 +30,7 @@ pub fn run(words: Words) -> Result<Answer, Error> {
         store.capacity(),
         fates(&store.fates()?),
         store.held_len()?,
+        authors(&store)?,
         pairs(&store.clock()?.entries()?),
         pairs(&store.compacted()?.entries()?),
         store.floor()?.map_or("-".to_owned(), stamp),

@@ -9,7 +9,7 @@ use crate::text::pairs;
 use crate::words::Words;
 
 pub fn run(words: Words) -> Result<Answer, Error> {
-    let (file, clocks) = words.one_and_more()?;
+    let (file, clocks) = words.one_and_more("")?;
     let frontier = frontier(&file, &clocks)?;
     let cutoff = load(&file)?.cutoff(&frontier)?;
     let all = format!("Frontier: {}\n", pairs(&frontier.entries()?));

@@ -1,6 +1,7 @@
 //! `delta FROM TO`: the rows that one store has logged and another has not.
 
 use std::collections::BTreeMap;
+use std::ffi::OsStr;
 use std::path::{Path, PathBuf};
 
 use cuwelfra::{ActorId, BatchRow, Refusal, Store, VectorClock, MAX_BATCH};
@@ -21,13 +22,13 @@ pub fn run(mut words: Words) -> Result<Answer, Error> {
     let max_bytes = words.number("--bytes", u64::MAX)?;
     let out = words.option("--out")?.map(PathBuf::from);
     let [from, to] = words.exactly()?;
-    let (store, other) = (load(Path::new(&from))?, load(Path::new(&to))?);
+    let (store, other) = (load(Path::new(&from))?, peer(&to)?);
     let clock = other.clock()?;
     let chunks = chunks(&store, &clock, max_rows, max_bytes)?;
-    let (from, to) = (name(from), name(to));
+    let (from, to, start) = (name(from), called(&to, "a"), called(&to, "A"));
 
     let rows: usize = chunks.iter().map(Vec::len).sum();
-    let mut text = format!("{to} lacks {} of {from}.\n", counted(rows, "row"));
+    let mut text = format!("{start} lacks {} of {from}.\n", counted(rows, "row"));
     if rows > 0 {
         text += &format!("Rows of each chunk: {}\n\n", lengths(&chunks));
         text += &show::delta(&chunks).to_string();
@@ -44,7 +45,7 @@ pub fn run(mut words: Words) -> Result<Answer, Error> {
     let whole = store.can_serve(&clock)?;
     if !whole {
         text += &format!(
-            "\nThese are not all: {from} has compacted rows that {to} lacks. {to} needs a store that still has them.\n"
+            "\nThese are not all: {from} has compacted rows that {to} lacks. {start} needs a store that still has them.\n"
         );
     }
     let unanswered = unanswered(&chunks);
@@ -58,6 +59,25 @@ pub fn run(mut words: Words) -> Result<Answer, Error> {
         text,
         well: whole && differing.is_empty() && (out.is_none() || unanswered.is_empty()),
     })
+}
+
+/// The word for a store that has nothing.
+const NOTHING: &str = "-";
+
+/// The store that may lack rows.
+fn peer(to: &OsStr) -> Result<Store, Error> {
+    match to == NOTHING {
+        true => Ok(Store::with_capacity(1)?),
+        false => load(Path::new(to)),
+    }
+}
+
+/// What that store is called, with this article where it has no name.
+fn called(to: &OsStr, article: &str) -> String {
+    match to == NOTHING {
+        true => format!("{article} store that has nothing"),
+        false => name(to),
+    }
 }
 
 /// The rows of both logs that have one number and other content, or another fate where both are known.

@@ -14,7 +14,7 @@ use crate::words::Words;
 
 pub fn run(mut words: Words) -> Result<Answer, Error> {
     let settings = words.settings()?;
-    let (file, files) = words.one_and_more()?;
+    let (file, files) = words.one_and_more("")?;
     let names: Vec<String> = files.iter().map(name).collect();
     let desks = Desk::read_all(files)?;
     let (joined, reverse) = both_orders(&desks, &settings)?;

@@ -5,6 +5,7 @@ use cuwelfra::{Explained, Refusal};
 use crate::advice::{by_number, Advice};
 use crate::answer::Answer;
 use crate::error::Error;
+use crate::plain::with_command;
 use crate::table::indented;
 use crate::text::number;
 use crate::words::Words;
@@ -40,7 +41,9 @@ fn shown(explained: &Explained) -> String {
         false => format!(": {}", values.join(", ")),
     };
     let words = match by_number(*number) {
-        Some(Advice { meaning, advice }) => indented(meaning) + &indented(advice),
+        Some(Advice { meaning, advice }) => {
+            indented(&with_command(meaning)) + &indented(&with_command(advice))
+        }
         None => {
             let advice = format!("No command meets it, only a program. {advice}");
             indented(meaning) + &indented(&advice)

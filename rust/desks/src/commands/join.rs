@@ -1,35 +1,48 @@
 //! `join STORE FILE...`: offers the files' batches to the store.
 
-use std::path::Path;
-
-use cuwelfra::{Limits, Refusal, Store};
+use cuwelfra::MAX_DEPS;
 
 use crate::answer::Answer;
 use crate::calls::{self, Settings, Told};
+use crate::commands::add::closed;
 use crate::desk::Desk;
 use crate::error::Error;
-use crate::plain::{command, name, shell};
-use crate::store::{kept_until, Change};
+use crate::own::authors;
+use crate::plain::name;
+use crate::show;
+use crate::store::Change;
 use crate::table::counted;
+use crate::waiting::Held;
 use crate::words::Words;
-use crate::{show, time};
 
 pub fn run(mut words: Words) -> Result<Answer, Error> {
     let settings = words.settings()?;
-    let (file, files) = words.one_and_more()?;
+    let (file, files) = words.one_and_more("")?;
     let desks = Desk::read_all(files)?;
     let mut change = Change::begin(file.clone())?;
     let before = change.store.logged_len()?;
+    let authors_before = authors(&change.store)?;
     let told = calls::offer(&mut change.store, desks.iter(), &settings)?;
     let (logged, held) = (change.store.logged_len()?, change.store.held_len()?);
-    let next = next_expiry(&file, &change.store, &settings.limits)?;
+    let waiting = Held {
+        file: &file,
+        store: &change.store,
+        limits: settings.limits,
+        time_ms: settings.time_ms,
+        timed: false,
+    };
+    let next = waiting.expiry()?;
+    let closed = match authors(&change.store)? {
+        authors if authors > MAX_DEPS && authors_before <= MAX_DEPS => closed(authors),
+        _ => String::new(),
+    };
     let accepted = told.iter().any(|told| told.answer.is_ok());
     let written = match accepted || change.new {
         true => change.save()?,
         false => "left as it was".to_owned(),
     };
     let text = format!(
-        "{}\n{}{}: {} logged, {} of them now; {held} held; {written}.\n{next}",
+        "{}\n{}{}: {} logged, {} of them now; {held} held; {written}.\n{closed}{next}",
         show::reports(&told),
         remarks(&desks, &settings),
         name(&file),
@@ -57,19 +70,4 @@ pub fn remarks(desks: &[Desk], settings: &Settings) -> String {
         }
     }
     text
-}
-
-/// When the first of the held rows will expire.
-fn next_expiry(file: &Path, store: &Store, limits: &Limits) -> Result<String, Refusal> {
-    let held = store.held()?;
-    let until = held.iter().filter_map(|held| kept_until(held, limits));
-    Ok(match until.min() {
-        Some(until) => format!(
-            "Of the held rows the first expires after {} UTC; {} held {} shows them.\n",
-            time::shown(until),
-            command(),
-            shell(file)
-        ),
-        None => String::new(),
-    })
 }

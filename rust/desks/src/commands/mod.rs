@@ -1,5 +1,6 @@
 //! The commands, each in its module.
 
+mod add;
 mod check;
 mod compact;
 mod compare;
@@ -30,8 +31,13 @@ struct Command(
     fn(Words) -> Result<Answer, Error>,
 );
 
-const COMMANDS: [Command; 14] = [
+const COMMANDS: [Command; 15] = [
     Command("join", "STORE FILE... [TIMES]", join::run),
+    Command(
+        "add",
+        "STORE --author N PAYLOAD... [--time MS] [--drift SPAN] [--force]",
+        add::run,
+    ),
     Command("log", "STORE", log::run),
     Command("held", "STORE [--age SPAN] [--time MS]", held::run),
     Command("check", "STORE", check::run),
@@ -58,7 +64,7 @@ const COMMANDS: [Command; 14] = [
 
 /// Does what the words say.
 pub fn run(words: Vec<OsString>) -> Result<Answer, Error> {
-    // Behind -- a word is a name.
+    // Behind -- a word is no option.
     let mut options = words.iter().take_while(|word| *word != "--");
     if options.clone().any(|word| word == "--help" || word == "-h") {
         return Ok(Answer::well(HELP.to_owned()));

@@ -249,8 +249,9 @@ fn compacting_and_the_floor() {
 }
 
 /// The commands that read a store.
-const READERS: [&str; 10] = [
+const READERS: [&str; 11] = [
     "join bad.store DESK_A",
+    "add bad.store --author 1 x",
     "log bad.store",
     "held bad.store",
     "check bad.store",
@@ -291,6 +292,7 @@ fn another_program_stops_a_change_as_long_as_it_runs() {
     let before = folder.read("ab.store");
     let changes = [
         "join ab.store DESK_A",
+        "add ab.store --author 1 x",
         "compact ab.store 1/0/1 --force",
         "floor ab.store 1/0/1",
     ];

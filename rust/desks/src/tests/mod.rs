@@ -31,8 +31,13 @@ impl Folder {
         folder
     }
 
-    /// Runs a command whose words are apart by blanks. Stores and other files stand in this folder.
+    /// Runs a command whose words are apart by blanks.
     fn run(&self, line: &str) -> Result<Answer, String> {
+        self.run_words(line.split(' '))
+    }
+
+    /// Runs a command. Stores and other files stand in this folder: the words with a dot.
+    fn run_words<'a>(&self, words: impl Iterator<Item = &'a str>) -> Result<Answer, String> {
         let word = |word: &str| match word {
             "DESK_A" => DESK_A.into(),
             "DESK_B" => DESK_B.into(),
@@ -40,7 +45,7 @@ impl Folder {
             _ if word.contains('.') => self.0.join(word).into_os_string(),
             _ => word.into(),
         };
-        let words: Vec<OsString> = line.split(' ').map(word).collect();
+        let words: Vec<OsString> = words.map(word).collect();
         let folder = format!("{}/", self.0.display());
         let bare = |text: String| {
             unquoted(text, &folder)
@@ -122,7 +127,9 @@ macro_rules! golden {
 }
 
 // Behind the macro, which they use.
+mod adding;
 mod changing;
+mod doubting;
 mod joining;
 mod telling;
 mod wording;

@@ -16,12 +16,22 @@ fn explaining() {
     let titles = all
         .lines()
         .filter(|line| line.starts_with(|first: char| first.is_ascii_digit()));
-    assert_eq!(titles.count(), 25);
+    assert_eq!(titles.count(), 28);
     assert!(all.contains(&one));
     assert!(!all.to_lowercase().contains("document"), "{all}");
+    for number in (1..=20).chain(26..=28) {
+        let told = folder.well(&format!("explain {number}"));
+        assert!(!told.contains("No command meets it"), "{told}");
+    }
+    let large = folder.well("explain 26");
+    assert!(
+        large.starts_with("26, operation too large\n    "),
+        "{large}"
+    );
+    assert!(large.contains("a 17th author"), "{large}");
     let pong = folder.well("explain 21");
     assert!(pong.contains("No command meets it"), "{pong}");
-    for none in ["0", "26", "x", "+1"] {
+    for none in ["0", "29", "x", "+1"] {
         let told = folder.fails(&format!("explain {none}"));
         assert_eq!(
             told,
@@ -37,6 +47,7 @@ fn wrong_words() {
     folder.write("good.txt", "1 0 1 1 - x");
     let span = "span of time: a whole number of ms, or of s, m, h or d with that letter behind it";
     let compact = "write ./run compact STORE [STAMP] [--dry-run] [--force] [--cutoff FRONTIER...]";
+    let add = "write ./run add STORE --author N PAYLOAD... [--time MS] [--drift SPAN] [--force]";
     let faults = [
         ("merge", "no command merge; --help lists them"),
         ("join", "write ./run join STORE FILE... [TIMES]"),
@@ -57,8 +68,58 @@ fn wrong_words() {
         ("log a.store ab.store", "write ./run log STORE"),
         (
             "log --all",
-            "no option --all here, or it stands twice; --help lists them. Behind -- a word is a name, whatever it \
+            "no option --all here, or it stands twice; --help lists them. Behind -- a word is no option, whatever it \
              begins with",
+        ),
+        ("add", add),
+        ("add a.store", &format!("--author is missing; {add}")),
+        ("add a.store x", &format!("--author is missing; {add}")),
+        ("add a.store --author 1", &format!("no payload is given; {add}")),
+        ("add a.store --author=1 x", "write --author 1, not --author=1"),
+        ("add a.store --author 1 --time=5 x", "write --time 5, not --time=5"),
+        ("join a.store good.txt --time=5", "write --time 5, not --time=5"),
+        (
+            "add a.store --author 1 x --x=5",
+            "no option --x=5 here, or it stands twice; --help lists them. Behind -- a word is no option, whatever it \
+             begins with",
+        ),
+        ("add a.store x --author", add),
+        ("add - --author 1 x", "`-` is no name of a store; ./- is"),
+        (
+            "add a.store --author me x",
+            "`me` is no author, which is a whole number below 2^64",
+        ),
+        (
+            "add a.store --author 1 --author 2 x",
+            "no option --author here, or it stands twice; --help lists them. Behind -- a word is no option, whatever it \
+             begins with",
+        ),
+        (
+            "add a.store --author 1 \"x",
+            "the word `\"x`: a double quote is not closed",
+        ),
+        (
+            "add a.store --author 1 \"x\"y",
+            "the word `\"x\"y`: text stands behind its closing double quote; inside, a double quote is written \\\"",
+        ),
+        (
+            "add a.store --author 1 Kette = chain",
+            "the word `=`: a payload without letter or digit. Of what has blanks a shell makes one word by quotes: \
+             'Kette = chain'. Where this is meant, it stands in double quotes inside them: '\"=\"'",
+        ),
+        (
+            "add a.store --author 1 Kette denied",
+            "the word `denied`: no payload, but what a file has behind one. `add` takes no answer and no `unverified`, and \
+             signature/HEX as a word of its own. If it is meant as payload, it stands in double quotes inside the \
+             shell's: '\"denied\"'",
+        ),
+        (
+            "add a.store --author 1 signature/00 x",
+            "the word `signature/00`: a signature stands behind its payload",
+        ),
+        (
+            "add a.store --author 1 x signature/0",
+            "the word `signature/0`: `0` is no signature, which is two hexadecimal digits a byte",
         ),
         (
             "delta a.store ab.store --rows",
@@ -166,6 +227,12 @@ fn nothing_from_outside_is_printed_raw() {
             format!("\u{1b}c {name}"),
             format!("log --\u{1b}c {name}"),
             format!("join a.store {name} --time \u{1b}c"),
+            format!("add {name} --author 7 x"),
+            "add a.store --author 7 \u{1b}c\u{202e}".to_owned(),
+            "add a.store --author 7 \"\u{1b}c".to_owned(),
+            "add a.store --author 7 x signature/\u{1b}".to_owned(),
+            "add a.store --author \u{1b}c x".to_owned(),
+            format!("add a.store --author 7 \u{1b}c{}", "x".repeat(256)),
             "log a.store".to_owned(),
             "held a.store".to_owned(),
         ] {

@@ -28,6 +28,14 @@ pub enum Fault {
     Signature(String),
     Twice(String),
     LateTime,
+    /// A text goes on behind its quotes.
+    BehindQuote,
+    /// A bare payload without a letter or a digit.
+    NoLetter,
+    /// A bare payload that is what a file has behind one.
+    NotPayload,
+    /// A signature with no payload before it.
+    NoPayload,
 }
 
 impl fmt::Display for Unreadable {
@@ -78,6 +86,22 @@ impl fmt::Display for Fault {
             }
             Self::Twice(word) => write!(f, "`{}` says again what a word before it says", plain(word)),
             Self::LateTime => write!(f, "`time` stands before the rows of a batch"),
+            Self::BehindQuote => write!(
+                f,
+                "text stands behind its closing double quote; inside, a double quote is written \\\""
+            ),
+            Self::NoLetter => write!(
+                f,
+                "a payload without letter or digit. Of what has blanks a shell makes one word by quotes: \
+                 'Kette = chain'. Where this is meant, it stands in double quotes inside them: '\"=\"'"
+            ),
+            Self::NotPayload => write!(
+                f,
+                "no payload, but what a file has behind one. `add` takes no answer and no `unverified`, and signature/HEX \
+                 as a word of its own. If it is meant as payload, it stands in double quotes inside the shell's: \
+                 '\"denied\"'"
+            ),
+            Self::NoPayload => write!(f, "a signature stands behind its payload"),
         }
     }
 }

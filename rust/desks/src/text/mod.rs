@@ -21,13 +21,15 @@
 //! `time MS` stands before a batch's rows; where the file is replayed, it is the time of its call and of the calls after
 //! it in this file.
 
+mod entry;
 mod fault;
 mod offer;
 mod read;
 mod words;
 mod write;
 
-pub use fault::Unreadable;
+pub use entry::{entries, Entry};
+pub use fault::{Fault, Unreadable};
 pub use offer::Offer;
 pub use read::{number, parse, parse_pairs, stamp};
 pub use write::{answer, answered, id, line, pairs, row, write};

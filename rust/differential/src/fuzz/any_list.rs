@@ -73,13 +73,33 @@ fn over(rng: &mut Rng, universe: &Universe, start: Snapshot, capacity: usize) ->
 }
 
 fn any_call(rng: &mut Rng, universe: &Universe) -> Call {
-    match rng.below(20) {
+    match rng.below(24) {
         0 | 1 => Call::Floor(universe.stamp(rng), rng.next()),
         2 => Call::Compact(universe.stamp(rng)),
         3 => Call::Insert(any_row(rng, universe)),
         4 => Call::Replace(any_snapshot(rng, universe)),
+        5..=7 => any_own(rng, universe),
+        8 => Call::Seal(any_row(rng, universe)),
         _ => Call::Batch(any_offer(rng, universe), rng.next()),
     }
+}
+
+/// A row of the desk's own, mostly after the number that is last issued.
+fn any_own(rng: &mut Rng, universe: &Universe) -> Call {
+    let mut row = any_row(rng, universe);
+    let issued = match rng.below(8) {
+        0 => rng.edge(),
+        _ => row.seq.saturating_sub(1 + rng.next() % 4),
+    };
+    if rng.once_in(4) {
+        let len = rng.pick(&[255, 256, 257]);
+        row.payload = rng.bytes(len);
+    }
+    if rng.once_in(4) {
+        let len = rng.pick(&[63, 64, 65]);
+        row.signature = rng.bytes(len);
+    }
+    Call::Own(row, issued)
 }
 
 fn any_row(rng: &mut Rng, universe: &Universe) -> Row {

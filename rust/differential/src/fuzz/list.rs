@@ -5,14 +5,14 @@ use std::collections::BTreeSet;
 use crate::fuzz::offers::{
     shown_offer, shown_row, shown_stamp, smaller_offers, smaller_rows, smaller_stamps,
 };
-use crate::fuzz::shrink::{lower, without, Input};
+use crate::fuzz::shrink::{hex, lower, without, Input};
 use crate::original::beside::{authors_fit, log_of};
 use crate::original::joined::Joined;
 use crate::port::batches::{outcome_of, Offer};
 use crate::port::rows::{Row, Stamp};
 use crate::port::store::Entries;
 use crate::rng::Rng;
-use crate::suites::beside::call_lists::ignored;
+use crate::suites::beside::call_lists::{ignored, sealing};
 use crate::support::Check;
 
 /// A log that did not come through the merger.
@@ -29,6 +29,10 @@ pub enum Call {
     Floor(Stamp, u64),
     Compact(Stamp),
     Insert(Row),
+    /// A row of the desk's own, prepared like this one with this number last issued, and sealed.
+    Own(Row, u64),
+    /// A row sealed as it is.
+    Seal(Row),
     Replace(Snapshot),
 }
 
@@ -55,7 +59,7 @@ impl List {
                 Call::Batch(offer, _) => {
                     rows.extend(offer.rows.iter_mut().map(|lent| &mut lent.row));
                 }
-                Call::Insert(row) => rows.push(row),
+                Call::Insert(row) | Call::Own(row, _) | Call::Seal(row) => rows.push(row),
                 Call::Replace(snapshot) => rows.extend(&mut snapshot.rows),
                 Call::Floor(..) | Call::Compact(_) => {}
             }
@@ -102,7 +106,7 @@ impl List {
                     authors.insert(stamp.2);
                 }
                 Call::Replace(snapshot) => authors.extend(snapshot.compacted.keys()),
-                Call::Batch(..) | Call::Insert(_) => {}
+                Call::Batch(..) | Call::Insert(_) | Call::Own(..) | Call::Seal(_) => {}
             }
         }
         authors
@@ -131,7 +135,7 @@ impl List {
             match call {
                 Call::Floor(stamp, _) | Call::Compact(stamp) => rename(&mut stamp.2),
                 Call::Replace(snapshot) => renamed(&mut snapshot.compacted),
-                Call::Batch(..) | Call::Insert(_) => {}
+                Call::Batch(..) | Call::Insert(_) | Call::Own(..) | Call::Seal(_) => {}
             }
         }
         other
@@ -205,6 +209,8 @@ fn perform(joined: &mut Joined, call: &Call) -> Check {
         Call::Floor(stamp, seed) => joined.set_floor(&mut rng(seed), *stamp),
         Call::Compact(stamp) => joined.compact(*stamp),
         Call::Insert(row) => joined.insert(row),
+        Call::Own(row, issued) => joined.own(row, *issued).map(|_| ()),
+        Call::Seal(row) => joined.seal(&sealing(row)).map(|_| ()),
         Call::Replace(snapshot) => {
             joined.replace(log_of(&snapshot.rows, &snapshot.compacted));
             Ok(())
@@ -232,7 +238,10 @@ fn smaller_calls(call: &Call) -> Box<dyn Iterator<Item = Call> + '_> {
             Box::new(smaller_floors(*stamp).map(|stamp| Call::Floor(stamp, *seed)))
         }
         Call::Compact(stamp) => Box::new(smaller_floors(*stamp).map(Call::Compact)),
-        Call::Insert(_) => Box::new(std::iter::empty()),
+        Call::Insert(_) | Call::Seal(_) => Box::new(std::iter::empty()),
+        Call::Own(row, issued) => {
+            Box::new(lower(*issued).map(|issued| Call::Own(row.clone(), issued)))
+        }
         Call::Replace(snapshot) => Box::new(smaller_snapshots(snapshot).map(Call::Replace)),
     }
 }
@@ -286,6 +295,14 @@ fn shown_call(call: &Call) -> String {
         Call::Floor(stamp, _) => format!("floor {}\n", shown_stamp(*stamp)),
         Call::Compact(stamp) => format!("compact to {}\n", shown_stamp(*stamp)),
         Call::Insert(row) => format!("insert {}\n", shown_row(row)),
+        Call::Own(row, issued) => format!(
+            "prepare author {}, time {}, payload [{}], last issued {issued}, and seal with signature [{}]\n",
+            row.author,
+            row.stamp.0,
+            hex(&row.payload),
+            hex(&row.signature)
+        ),
+        Call::Seal(row) => format!("seal {}\n", shown_row(row)),
         Call::Replace(snapshot) => format!("another log, with {}", shown_snapshot(snapshot)),
     }
 }

@@ -8,10 +8,52 @@ use crate::port::store::{self, Areas, Content, Entries};
 /// A store after its call list.
 pub struct Run {
     pub areas: Areas,
-    /// The rows of accepted batches.
+    /// The rows of accepted batches and sealings.
     pub offered: BTreeSet<Row>,
     /// Time and pending age of accepted batches.
     pub times: Vec<(u64, u64)>,
+    /// What is against its accepted sealings.
+    pub against: BTreeSet<Against>,
+    /// How many sealings were accepted, and refused.
+    pub sealed: u64,
+    pub refused: u64,
+}
+
+/// Why an accepted sealing may not stand in a call list.
+#[derive(Clone, Copy, Debug, PartialEq, Eq, PartialOrd, Ord)]
+pub enum Against {
+    /// The row itself was offered before.
+    Offered,
+    /// A row that depends on it was.
+    Depending,
+    /// A later one of its author was.
+    Later,
+    /// It is not as prepared with the author's number in the log's clock as the number last issued.
+    Number,
+}
+
+/// What is against an accepted sealing of a row, by the clock before it and the rows that were offered before. 02: "sealed
+/// as prepared, counts as offered to its store if neither it nor a row depending on it or later by its author was offered
+/// there before sealing, and the number last issued is the author's number in that store's log clock at sealing, 0 if
+/// absent". That a row is as prepared is seen from its content: sealing tests the rest of it.
+pub fn against(clock: &Entries, before: &BTreeSet<Row>, row: &Row) -> BTreeSet<Against> {
+    let depends = |other: &Row| {
+        let mut deps = other.deps.iter();
+        deps.any(|(author, number)| *author == row.author && *number >= row.seq)
+    };
+    let later = |other: &Row| other.author == row.author && other.seq > row.seq;
+    let number = clock.get(&row.author).copied().unwrap_or(0);
+    let next = number.checked_add(1) == Some(row.seq);
+    // No clock issues a stamp of wall time 0 and counter 0.
+    let issued = (row.stamp.0, row.stamp.1) > (0, 0);
+    let holds = [
+        (Against::Offered, before.contains(row)),
+        (Against::Depending, before.iter().any(depends)),
+        (Against::Later, before.iter().any(later)),
+        (Against::Number, !(next && issued)),
+    ];
+    let held = holds.into_iter().filter(|(_, holds)| *holds);
+    held.map(|(what, _)| what).collect()
 }
 
 impl Run {

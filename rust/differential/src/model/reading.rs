@@ -22,6 +22,16 @@ pub fn read_batch(bytes: &[u8]) -> Read<Vec<BatchRow>> {
     Ok(rows)
 }
 
+/// The signed bytes of one row, then nothing.
+pub fn read_unsigned(bytes: &[u8]) -> Read<Row> {
+    let mut rest = Rest(bytes);
+    let row = rest.unsigned()?;
+    if !rest.0.is_empty() {
+        return Err(UNREADABLE);
+    }
+    Ok(row)
+}
+
 impl Rest<'_> {
     fn byte(&mut self) -> Read<u64> {
         let (first, rest) = self.0.split_first().ok_or(UNREADABLE)?;
@@ -72,17 +82,23 @@ impl Rest<'_> {
         Ok(deps)
     }
 
-    fn row(&mut self) -> Read<BatchRow> {
+    /// All of a row but its signature.
+    fn unsigned(&mut self) -> Read<Row> {
         let wall = self.varint()?;
         let counter = u32::try_from(self.varint()?).map_err(|_| UNREADABLE)?;
-        let row = Row {
+        Ok(Row {
             stamp: (wall, counter, self.varint()?),
             author: self.varint()?,
             seq: self.varint()?,
             deps: self.deps()?,
             payload: self.bytes(256)?,
-            signature: self.bytes(64)?,
-        };
+            signature: Vec::new(),
+        })
+    }
+
+    fn row(&mut self) -> Read<BatchRow> {
+        let mut row = self.unsigned()?;
+        row.signature = self.bytes(64)?;
         let (verdict, outcome, detail) = (self.byte()?, self.byte()?, self.byte()?);
         if verdict > 1 || !outcome_fits(outcome, detail) {
             return Err(UNREADABLE);

@@ -1,13 +1,16 @@
 //! A store of the port and the original's merger with its log, driven by the same calls.
 
-use cuwelfra_sys::{self as sys, MergeTold, Told};
+use cuwelfra_sys::{self as sys, MergeTold, Preparation, Told};
 use oracle::log::ReplicatedLog;
 
 use crate::model::batch_call;
+use crate::model::own::{prepare_call, row_of, seal_call};
 use crate::original::beside::{authors_fit, operation, timestamp, told_number};
 use crate::original::merger::Original;
+use crate::port::area;
 use crate::port::batches::Offer;
 use crate::port::lending::{same_call, Lent};
+use crate::port::own::{same_prepare, same_seal, Preparing, Sealing};
 use crate::port::rows::{Row, Stamp};
 use crate::port::store::{same_areas, Areas};
 use crate::port::wrapped::{self, refusal, wrapped_stamp};
@@ -97,6 +100,49 @@ impl Joined {
         let told = sys::insert(&mut areas.log, &areas.held, &mut areas.head, &row.slot());
         agree(&told, &Told::default(), || format!("insert {row:?}"))?;
         same_areas(&self.areas, &self.wanted, || format!("insert {row:?}"))
+    }
+
+    /// Prepares a row of this desk itself with the author, wall time, payload and signature of this one, and seals it; the
+    /// original inserts it. The hybrid clock is at the latest watermark.
+    pub fn own(&mut self, row: &Row, issued: u64) -> Result<Told, String> {
+        let content = self.original.content();
+        let last = content.marks.values().max().copied().unwrap_or_default();
+        let lent = Preparing {
+            of: Preparation {
+                author: row.author,
+                last_wall: last.0,
+                last_counter: last.1,
+                max_drift_ms: 60_000,
+                time_ms: row.stamp.0,
+                issued,
+            },
+            payload: row.payload.clone(),
+            clock: area::encode(content.clock).to_vec(),
+            output: 624,
+        };
+        let (told, bytes) = prepare_call(&lent);
+        same_prepare(&lent, &told, &bytes)?;
+        match told.told == Told::default() {
+            true => self.seal(&Sealing {
+                bytes,
+                signature: row.signature.clone(),
+            }),
+            false => Ok(told.told),
+        }
+    }
+
+    /// Seals a row; the original inserts it where the model accepts it.
+    pub fn seal(&mut self, lent: &Sealing) -> Result<Told, String> {
+        let inputs = format!("{lent:02x?}, the store {:02x?}", self.original.content());
+        let (told, modelled) = seal_call(&self.wanted, lent);
+        if told == Told::default() {
+            let row = row_of(lent).ok_or("  a row that does not read was sealed")?;
+            self.original.log.insert(operation(&row));
+            self.wanted.write_log(&self.original.content());
+            same_areas(&modelled, &self.wanted, || format!("the model, {inputs}"))?;
+        }
+        same_seal(&mut self.areas, lent, told, &self.wanted, || inputs.clone())?;
+        Ok(told)
     }
 
     /// Removes the rows up to a stamp.

@@ -7,19 +7,19 @@ use std::rc::Rc;
 use cuwelfra_sys::MergeTold;
 use oracle::clock::ManualClock;
 use oracle::engine::{Event, LogImage, Replica, ReplicaConfig};
-use oracle::error::FrameError;
+use oracle::error::{EngineError, FrameError};
 use oracle::log::ReplicatedLog;
 use oracle::merge::MergeReport;
-use oracle::stubs::crypto::{KeyedHashSigner, Verifier};
-use oracle::stubs::ActorId;
+use oracle::stubs::crypto::{Signature, Signer, Verifier};
+use oracle::stubs::{ActorId, UirNode};
 
-use crate::original::beside::{operation, timestamp};
+use crate::original::beside::{operation, row, timestamp};
 use crate::original::judges::{merge_told, rejected_fate, reported, Applied, Outcomes};
 use crate::port::batches::Offer;
-use crate::port::rows::Stamp;
+use crate::port::rows::{Row, Stamp};
 
-/// The replica's own author, who offers nothing.
-const OWN: ActorId = ActorId(1_000);
+/// An author who offers nothing.
+const NOBODY: u64 = 1_000;
 
 pub struct Driven {
     /// `None` only while settings change.
@@ -39,6 +39,28 @@ impl Verifier for Verdicts {
     }
 }
 
+/// Signs with so many bytes.
+#[derive(Clone, Copy)]
+pub struct Signing(pub usize);
+
+impl Signer for Signing {
+    fn sign(&self, message: &[u8]) -> Signature {
+        let byte = |i: usize| message[i % message.len()] ^ i as u8;
+        (0..self.0).map(byte).collect()
+    }
+}
+
+/// What a replica is restored from beside a log, and the time then.
+#[derive(Clone, Copy)]
+pub struct Restoring {
+    pub author: u64,
+    pub floor: Option<Stamp>,
+    /// The number last issued.
+    pub issued: u64,
+    pub time: u64,
+    pub signing: Signing,
+}
+
 /// What a replica makes of a batch.
 #[derive(Debug, PartialEq, Eq)]
 pub struct Ran {
@@ -46,35 +68,52 @@ pub struct Ran {
     pub told: MergeTold,
     /// Author, sequence, fate and detail of the rejected rows, which it raises as events.
     pub rejected: Vec<(u64, u64, u8, u8)>,
+    /// How many stamps could not be folded into its clock.
+    pub unfolded: usize,
 }
 
 impl Driven {
     /// Restored from a log's rows, its compacted clock and a floor.
     pub fn new(log: &ReplicatedLog, floor: Option<Stamp>) -> Self {
-        // All of the log is in the past of the last time.
-        let time = ManualClock::new(u64::MAX);
-        let verdicts = Verdicts::default();
-        let image = LogImage {
-            ops: log.ops().to_vec(),
-            compacted: log.compacted().clone(),
-            floor: floor.map(timestamp),
-            state_hash: 0,
+        let from = Restoring {
+            author: NOBODY,
+            floor,
             issued: 0,
+            // All of the log is in the past of the last time.
+            time: u64::MAX,
+            signing: Signing(8),
+        };
+        Self::restored(log, from).expect("a log of the past")
+    }
+
+    /// The same with an author, a number last issued and a time; `None` where a stamp cannot be folded into the clock.
+    pub fn restored(log: &ReplicatedLog, from: Restoring) -> Option<Self> {
+        let own = ActorId(from.author);
+        let time = ManualClock::new(from.time);
+        let verdicts = Verdicts::default();
+        // Each goes before its equals, so the last comes first.
+        let ops = log.ops().iter().rev().cloned();
+        let image = LogImage {
+            ops: ops.collect(),
+            compacted: log.compacted().clone(),
+            floor: from.floor.map(timestamp),
+            state_hash: 0,
+            issued: from.issued,
         };
         let replica = Replica::restore(
-            OWN,
+            own,
             Applied::default(),
             image,
-            Box::new(KeyedHashSigner::new(OWN, 0)),
+            Box::new(from.signing),
             Box::new(verdicts.clone()),
             Box::new(time.clone()),
         );
-        let replica = replica.expect("a log of the past");
-        Self {
+        let replica = replica.ok()?;
+        Some(Self {
             replica: Some(replica.with_policy(Box::new(Outcomes::default()))),
             time,
             verdicts,
-        }
+        })
     }
 
     fn replica(&mut self) -> &mut Replica<Applied> {
@@ -83,6 +122,20 @@ impl Driven {
 
     pub fn log(&mut self) -> &ReplicatedLog {
         self.replica().log()
+    }
+
+    /// The number last issued.
+    pub fn issued(&mut self) -> u64 {
+        self.replica().export_log().issued
+    }
+
+    /// A row of its own at a time.
+    pub fn local_op(&mut self, time: u64, payload: &[u8]) -> Result<Row, EngineError> {
+        self.time.set(time);
+        let bytes = payload.to_vec();
+        let answer = self.replica().local_op(UirNode { bytes });
+        assert_eq!(self.replica().drain_events(), [], "without peers");
+        answer.map(|operation| row(&operation))
     }
 
     /// How many rows wait.
@@ -109,9 +162,11 @@ impl Driven {
         let ops = offer.rows.iter().map(|lent| operation(&lent.row));
         let answer = self.replica().import_ops(ops.collect());
         let events = self.replica().drain_events();
+        let rejected: Vec<_> = events.iter().filter_map(rejected).collect();
         Ran {
             told: told(answer),
-            rejected: events.iter().map(rejected).collect(),
+            unfolded: events.len() - rejected.len(),
+            rejected,
         }
     }
 }
@@ -127,12 +182,14 @@ fn told(answer: Result<MergeReport, FrameError>) -> MergeTold {
     }
 }
 
-fn rejected(event: &Event) -> (u64, u64, u8, u8) {
+/// `None` for a stamp that could not be folded.
+fn rejected(event: &Event) -> Option<(u64, u64, u8, u8)> {
     match event {
         Event::OpRejected { actor, seq, error } => {
             let (fate, detail) = rejected_fate(error);
-            (actor.0, *seq, fate, detail)
+            Some((actor.0, *seq, fate, detail))
         }
+        Event::ClockFoldFailed(_) => None,
         other => panic!("a batch raises no such event: {other:?}"),
     }
 }

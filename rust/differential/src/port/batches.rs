@@ -63,21 +63,28 @@ pub fn batch(rows: &[BatchRow]) -> Vec<u8> {
 }
 
 fn put_row(bytes: &mut Vec<u8>, lent: &BatchRow) {
-    let row = &lent.row;
+    let signature = &lent.row.signature;
+    bytes.extend(unsigned(&lent.row));
+    put_varint(bytes, signature.len() as u64);
+    bytes.extend(signature);
+    bytes.extend([lent.verdict, lent.outcome, lent.detail].map(|number| number as u8));
+}
+
+/// What is signed of a row.
+pub fn unsigned(row: &Row) -> Vec<u8> {
+    let mut bytes = Vec::new();
     let (wall, counter, stamper) = row.stamp;
     for number in [wall, u64::from(counter), stamper, row.author, row.seq] {
-        put_varint(bytes, number);
+        put_varint(&mut bytes, number);
     }
-    put_varint(bytes, row.deps.len() as u64);
+    put_varint(&mut bytes, row.deps.len() as u64);
     for (author, number) in &row.deps {
-        put_varint(bytes, *author);
-        put_varint(bytes, *number);
+        put_varint(&mut bytes, *author);
+        put_varint(&mut bytes, *number);
     }
-    for part in [&row.payload, &row.signature] {
-        put_varint(bytes, part.len() as u64);
-        bytes.extend(part);
-    }
-    bytes.extend([lent.verdict, lent.outcome, lent.detail].map(|number| number as u8));
+    put_varint(&mut bytes, row.payload.len() as u64);
+    bytes.extend(&row.payload);
+    bytes
 }
 
 /// The shortest varint of a number.

@@ -51,6 +51,7 @@ cfg_if! {
             pub mod merge_cases;
             pub mod batch_bytes;
             pub mod odd_stores;
+            pub mod desk_faults;
             pub mod convergence;
         }
     }
@@ -82,6 +83,7 @@ cfg_if! {
             pub mod full_size;
             pub mod call_lists;
             pub mod replica;
+            pub mod desk;
             pub mod differences;
         }
     }
@@ -92,10 +94,11 @@ pub fn all() -> impl Iterator<Item = &'static Suite> {
 }
 
 /// The suites that run longest, in falling order.
-pub const LONGEST: [&str; 10] = [
+pub const LONGEST: [&str; 11] = [
     "call-lists",
     "full-size",
     "replica",
+    "desk",
     "convergence",
     "compact",
     "from-parts",

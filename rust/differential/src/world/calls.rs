@@ -4,10 +4,11 @@ use cuwelfra::Limits;
 use cuwelfra_sys::{self as sys, ClockNumber, LookupTold, StampTold, Told};
 
 use crate::port::area::{self, BYTES};
-use crate::port::batches::Answer;
+use crate::port::batches::{unsigned, Answer};
 use crate::port::lending::{self, Lent};
-use crate::port::rows::SLOT;
-use crate::port::store::{is_zero, Areas, HELD};
+use crate::port::own::{self, Sealing};
+use crate::port::rows::{Row, DEPS, SLOT};
+use crate::port::store::{is_zero, Areas, CLOCK, COMPACTED, HELD};
 use crate::rng::Rng;
 use crate::support::pattern;
 use crate::world::World;
@@ -55,7 +56,7 @@ pub enum Takes {
 }
 
 /// Name, other area, call.
-pub const CALLS: [(&str, Takes, Call); 18] = [
+pub const CALLS: [(&str, Takes, Call); 19] = [
     ("store_check", Takes::Nothing, |s, _| {
         sys::store_check(s.lent())
     }),
@@ -114,6 +115,7 @@ pub const CALLS: [(&str, Takes, Call); 18] = [
         sys::set_floor(&s.log, &s.held, &mut s.head, floor)
     }),
     ("apply_remote_ops", Takes::Nothing, |s, o| merged(s, o)),
+    ("seal", Takes::Nothing, |s, o| sealed(s, o)),
 ];
 
 /// Cuts the other area of a call by a byte; false where it takes none.
@@ -159,6 +161,24 @@ fn merged(s: &mut Areas, o: &mut Others) -> Told {
         );
     }
     told
+}
+
+/// A row that depends on the store's clock, or on as much of it as a row can.
+fn sealed(s: &mut Areas, o: &Others) -> Told {
+    let clock = s.head.get(8 * CLOCK..8 * COMPACTED).unwrap_or(&[0; BYTES]);
+    let row = Row {
+        stamp: (o.seq, 0, o.author),
+        author: o.author,
+        seq: o.seq.max(1),
+        deps: area::entries(clock).take(DEPS).collect(),
+        payload: Vec::new(),
+        signature: Vec::new(),
+    };
+    let lent = Sealing {
+        bytes: unsigned(&row),
+        signature: Vec::new(),
+    };
+    own::seal(s, &lent)
 }
 
 fn number(answer: ClockNumber) -> Told {

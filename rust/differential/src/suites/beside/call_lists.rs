@@ -8,7 +8,8 @@ use crate::model::modelled;
 use crate::original::beside::log_of;
 use crate::original::joined::Joined;
 use crate::port::area::AUTHORS;
-use crate::port::batches::Offer;
+use crate::port::batches::{unsigned, Offer};
+use crate::port::own::Sealing;
 use crate::port::rows::Row;
 use crate::port::store::Entries;
 use crate::rng::Rng;
@@ -27,7 +28,9 @@ pub fn run(rng: &mut Rng) -> Outcome {
             _ => small(rng, &mut census)?,
         }
     }
-    census.finish("call-lists", 1..=18, &MOVES)
+    let numbers = [0, 17, 18, 26, 27, 28];
+    let own = census.own.finish("call-lists, rows of its own", &numbers)?;
+    Ok(own + census.finish("call-lists", 1..=18, &MOVES)?)
 }
 
 /// Few authors, and a log with few slots.
@@ -79,7 +82,7 @@ fn wide(rng: &mut Rng, census: &mut Census) -> Check {
 }
 
 fn step(rng: &mut Rng, universe: &Universe, joined: &mut Joined, census: &mut Census) -> Check {
-    match rng.below(20) {
+    match rng.below(22) {
         0 | 1 => {
             let floor = universe.stamp(rng);
             return joined.set_floor(rng, floor);
@@ -88,6 +91,17 @@ fn step(rng: &mut Rng, universe: &Universe, joined: &mut Joined, census: &mut Ce
         3 => return joined.insert(&universe.rows[rng.below(universe.rows.len())]),
         4 => {
             joined.replace(snapshot(rng, universe));
+            return Ok(());
+        }
+        5 => {
+            let row = &universe.rows[rng.below(universe.rows.len())];
+            let issued = row.seq.saturating_sub(rng.next() % 4);
+            census.own.note(&joined.own(row, issued)?);
+            return Ok(());
+        }
+        6 => {
+            let row = &universe.rows[rng.below(universe.rows.len())];
+            census.own.note(&joined.seal(&sealing(row))?);
             return Ok(());
         }
         _ => {}
@@ -99,6 +113,14 @@ fn step(rng: &mut Rng, universe: &Universe, joined: &mut Joined, census: &mut Ce
     other_outcomes(rng, joined, &mut offer);
     census.note(&joined.batch(rng, &offer)?);
     Ok(())
+}
+
+/// A row as it is, which mostly depends on something else than the log's clock.
+pub fn sealing(row: &Row) -> Sealing {
+    Sealing {
+        bytes: unsigned(row),
+        signature: row.signature.clone(),
+    }
 }
 
 /// A log that did not come through the merger.

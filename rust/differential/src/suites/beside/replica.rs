@@ -78,6 +78,7 @@ fn batch(offer: &Offer, areas: &mut Areas, replica: &mut Driven, census: &mut Ce
     let here = Ran {
         told,
         rejected: lines.map(line).filter(|line| line.2 > 1).collect(),
+        unfolded: 0,
     };
     agree(&here, &replica.apply(offer), || inputs.clone())?;
     let content = store::read(areas).ok_or(format!("  an unsound store after {inputs}"))?;

@@ -1,9 +1,10 @@
-//! Each refusal of document 01 is provoked through an exported call, and comes through the wrapper with its number and
+//! Each refusal is provoked through an exported call, and comes through the wrapper with its number and
 //! values. Fails where a number was not provoked.
 
 mod batches;
 mod lent;
 mod numbers;
+mod own;
 
 use cuwelfra::Refusal;
 use cuwelfra_sys::Told;
@@ -11,10 +12,10 @@ use cuwelfra_sys::Told;
 use crate::rng::Rng;
 use crate::support::{agree, note, Check, Outcome};
 
-/// Document 01's numbers.
-const LAST: usize = 25;
+/// Document 01's numbers, and document 02's from 26 on.
+const LAST: usize = 28;
 
-/// What is wrong, the answer that document 01 gives it (number and two values, 0 where it carries none), and the call.
+/// What is wrong, the answer that the documents give it (number and two values, 0 where it carries none), and the call.
 type Provocation = (&'static str, [u64; 3], fn() -> Told);
 
 pub fn run(rng: &mut Rng) -> Outcome {
@@ -22,6 +23,7 @@ pub fn run(rng: &mut Rng) -> Outcome {
         lent::PROVOCATIONS,
         batches::PROVOCATIONS,
         numbers::PROVOCATIONS,
+        own::PROVOCATIONS,
     ]
     .concat();
     let mut provoked = [0; LAST + 1];
@@ -63,7 +65,7 @@ fn comes_through(told: Told) -> Check {
     Ok(())
 }
 
-/// How many values each of the refusals 1 to 25 carries.
+/// How many values each of the refusals 1 to 28 carries.
 fn values(number: u64) -> usize {
     match number {
         5..=13 | 16 | 20 => 2,
@@ -72,7 +74,7 @@ fn values(number: u64) -> usize {
     }
 }
 
-/// The wrapper's refusals with any values, and its answer to numbers that document 01 does not have.
+/// The wrapper's refusals with any values, and its answer to numbers that the documents do not have.
 fn mapped(rng: &mut Rng) -> Outcome {
     let mut cases = 0;
     for number in 1..=LAST as u64 {
@@ -90,7 +92,7 @@ fn mapped(rng: &mut Rng) -> Outcome {
         comes_through(told)?;
         cases += 1;
     }
-    for number in [26, Refusal::MISFIT - 1] {
+    for number in [29, Refusal::MISFIT - 1] {
         let told = Told {
             number,
             ..Told::default()

@@ -1,0 +1,2 @@
+pub mod PreparingSteps
+pub mod SealingSteps
