@@ -58,7 +58,7 @@ ownFuture author seq [] = false
 ownFuture author seq ((a, n) ∷ ds) = (eqb a author && leb seq n) || ownFuture author seq ds
 
 -- one of the tests 5 to 12: 01: "Refusals 5 to 13 carry author and sequence"
-abbrev pub requireOf : {A : Type 0} → Row → (ActorId → Seq → Refusal) → Bool → Answer A → Answer A
+abbrev pub requireOf : Row → (ActorId → Seq → Refusal) → Bool → Answer Unit → Answer Unit
 requireOf r refusal test rest = unless test (refusal (record { 0 = r .author }) (r .seq)) rest
 
 -- 01: "5 to 12 row by row in that order"
