@@ -27,7 +27,7 @@ HAS_WORDS(cuwelfra_clock_number, 4);
 HAS_WORDS(cuwelfra_stamp_told, 7);
 HAS_WORDS(cuwelfra_lookup_told, 6);
 HAS_WORDS(cuwelfra_op_told, 5);
-HAS_WORDS(cuwelfra_merge_told, 10);
+HAS_WORDS(cuwelfra_delta_told, 13);
 HAS_WORDS(cuwelfra_prepared_told, 43);
 
 static int checks = 0;
@@ -97,7 +97,7 @@ static void check_word(int line, uint64_t number, const char *wanted)
 static void versions(void)
 {
     IS(cuwelfra_abi(), CUWELFRA_ABI);
-    IS(cuwelfra_abi_2(), CUWELFRA_ABI);
+    IS(cuwelfra_abi_3(), CUWELFRA_ABI);
     IS(CUWELFRA_ABI_FITS(), 1);
 }
 
@@ -320,6 +320,15 @@ static const store empty_store;
 static store desk;
 static store before;
 
+/* The hybrid clock of author 9, which goes from one batch call to the next. */
+static cuwelfra_hybrid ours;
+
+static void empty_desk(void)
+{
+    desk = empty_store;
+    ours = cuwelfra_hybrid_new(9);
+}
+
 /* Room for six held and new rows. */
 static uint8_t scratch[6 * CUWELFRA_SCRATCH_BYTES];
 static uint8_t output[6 * CUWELFRA_LINE_BYTES];
@@ -332,15 +341,28 @@ typedef struct {
 
 static const settings usual = {64, 3600000};
 
-/* Applies a batch to the desk; scratch starts as rubbish and must be zero afterwards. */
-static cuwelfra_merge_told apply(settings with, uint64_t time_ms, const uint8_t *batch, size_t batch_len)
+/* Takes over the clock that a batch call gives back. A refused one gives back what it got, and counts no stamp. */
+static void move_on(cuwelfra_delta_told report)
 {
-    cuwelfra_merge_told report;
+    if (report.told.number != 0) {
+        AT(report, ours.last_wall, ours.last_counter);
+        IS(report.failed_folds, 0);
+    }
+    ours.last_wall = report.last_wall;
+    ours.last_counter = report.last_counter;
+}
+
+/* Applies a batch to the desk; scratch starts as rubbish and must be zero afterwards. */
+static cuwelfra_delta_told apply(settings with, uint64_t time_ms, const uint8_t *batch, size_t batch_len)
+{
+    cuwelfra_delta_told report;
     memset(scratch, 0xFF, sizeof scratch);
     memset(output, 0x5A, sizeof output);
-    report = cuwelfra_apply_remote_ops(with.max_pending, 64, 64 * 256, with.max_pending_age_ms, 60000, 16, 256, time_ms,
-                                       AREAS(desk), batch, batch_len, scratch, sizeof scratch, output, sizeof output);
+    report = cuwelfra_apply_delta(with.max_pending, 64, 64 * 256, with.max_pending_age_ms, 60000, 16, 256, time_ms,
+                                  ours.actor, ours.last_wall, (uint32_t)ours.last_counter, ours.max_drift_ms,
+                                  AREAS(desk), batch, batch_len, scratch, sizeof scratch, output, sizeof output);
     ALL_FROM(scratch, 0, 0);
+    move_on(report);
     return report;
 }
 
@@ -407,9 +429,9 @@ static void apply_first_batch(void)
         0, 0, 0, 0, 0, 0, 0, 1, /* sequence */
         CUWELFRA_FATE_INVALID, 7,
     };
-    cuwelfra_merge_told report;
+    cuwelfra_delta_told report;
 
-    desk = empty_store;
+    empty_desk();
     report = apply(usual, 10000, first_batch, sizeof first_batch);
     ACCEPTED(report.told);
     IS(report.applied, 0);
@@ -419,6 +441,7 @@ static void apply_first_batch(void)
     IS(report.held, 1);
     IS(report.expired, 0);
     IS(report.dropped, 0);
+    IS(report.failed_folds, 0);
     STARTS(output, line);
     ALL_FROM(output, sizeof line, 0x5A);
 }
@@ -430,7 +453,7 @@ static void a_row_waits_for_its_cause(void)
         0, 0, 0, 0, 0, 0, 0, 2, 0, 0, 0, 0, 0, 0, 0, 1, 0, 0, /* author 2, sequence 1: applied */
     };
     static const uint8_t payload[] = {'m', 'o', 't'};
-    cuwelfra_merge_told report;
+    cuwelfra_delta_told report;
     cuwelfra_lookup_told found;
 
     apply_first_batch();
@@ -472,7 +495,7 @@ static void refused_batches(void)
     static const uint8_t many_rows[] = {CUWELFRA_MAX_BATCH};
     static const uint8_t too_many_rows[] = {CUWELFRA_MAX_BATCH + 1};
     uint8_t unverified[sizeof first_batch];
-    cuwelfra_merge_told report;
+    cuwelfra_delta_told report;
 
     apply_first_batch();
     before = desk;
@@ -487,7 +510,7 @@ static void refused_batches(void)
     report = apply(one_held, 10000, waiting, sizeof waiting);
     REFUSED(report.told, HELD_OVERFLOW, 1, 0);
     check_unchanged();
-    desk = empty_store;
+    empty_desk();
     before = desk;
     report = apply(none_held, 10000, waiting, sizeof waiting);
     REFUSED(report.told, HELD_OVERFLOW, 0, 0);
@@ -514,13 +537,15 @@ static void refused_batches(void)
 /* Applies the second batch with areas of these sizes: log, held, head, scratch, output. */
 static cuwelfra_told apply_within(const size_t *lens)
 {
-    cuwelfra_merge_told report;
+    cuwelfra_delta_told report;
     memset(scratch, 0xFF, sizeof scratch);
     memset(output, 0x5A, sizeof output);
-    report = cuwelfra_apply_remote_ops(64, 64, 64 * 256, 3600000, 60000, 16, 256, 10000, desk.log, lens[0], desk.held,
-                                       lens[1], desk.head, lens[2], second_batch, sizeof second_batch, scratch, lens[3],
-                                       output, lens[4]);
+    report = cuwelfra_apply_delta(64, 64, 64 * 256, 3600000, 60000, 16, 256, 10000, ours.actor, ours.last_wall,
+                                  (uint32_t)ours.last_counter, ours.max_drift_ms, desk.log, lens[0], desk.held,
+                                  lens[1], desk.head, lens[2], second_batch, sizeof second_batch, scratch, lens[3],
+                                  output, lens[4]);
     check_all(__LINE__, "scratch", scratch, lens[3], 0);
+    move_on(report);
     return report.told;
 }
 
@@ -558,17 +583,17 @@ static void times(void)
     static const settings fifty_ms = {64, 50};
     static const uint8_t no_row[] = {0};
     uint8_t ahead[] = {1, 0xC8, 0xDC, 0x03, 0, 1, 1, 1, 0, 0, 0, 1, 0, 0}; /* row 1 of author 1 at 61,000 */
-    cuwelfra_merge_told report;
+    cuwelfra_delta_told report;
 
     /* At time 1,000 with a drift of 60,000: 61,000 passes, 61,001 is 11. */
-    desk = empty_store;
+    empty_desk();
     ahead[1]++;
     REFUSED(apply(usual, 1000, ahead, sizeof ahead).told, AHEAD_OF_TIME, 1, 1);
     ahead[1]--;
     IS(apply(usual, 1000, ahead, sizeof ahead).applied, 1);
 
     /* A row that arrived at 100 and may wait for 50: kept at 150, expired at 151. */
-    desk = empty_store;
+    empty_desk();
     IS(apply(usual, 100, first_batch, sizeof first_batch).held, 1);
     report = apply(fifty_ms, 150, no_row, sizeof no_row);
     IS(report.held, 1);
@@ -578,11 +603,57 @@ static void times(void)
     IS(report.expired, 1);
 }
 
+/* The stamps of the first batch, 4,000/0 and 5,000/1, are folded into the clock in this order. */
+static void folded_stamps(void)
+{
+    static const uint8_t no_row[] = {0};
+    cuwelfra_delta_told report;
+    cuwelfra_issued_stamp issued;
+
+    empty_desk();
+    report = apply(usual, 1000, first_batch, sizeof first_batch);
+    AT(report, 5000, 2);
+
+    /* The next stamp is above those of the batch. */
+    issued = cuwelfra_hybrid_now(ours.actor, ours.last_wall, (uint32_t)ours.last_counter, ours.max_drift_ms, 1000);
+    ACCEPTED(issued.told);
+    IS(cuwelfra_timestamp_cmp(issued.wall_time, (uint32_t)issued.logical_counter, issued.actor_id, 5000, 1, 2),
+       CUWELFRA_STAMP_GREATER);
+    AT(issued, 5000, 3);
+    ours.last_wall = issued.last_wall;
+    ours.last_counter = issued.last_counter;
+
+    /* Duplicates and held rows are folded in too. A batch without rows moves no clock, however late it is. */
+    report = apply(usual, 1000, first_batch, sizeof first_batch);
+    IS(report.duplicates, 2);
+    AT(report, 5000, 5);
+    report = apply(usual, 90000, no_row, sizeof no_row);
+    AT(report, 5000, 5);
+
+    /* 20 for the second stamp, by the clock's own drift: the row is merged, the stamp is counted. */
+    empty_desk();
+    ours.max_drift_ms = 3999;
+    report = apply(usual, 1000, first_batch, sizeof first_batch);
+    ACCEPTED(report.told);
+    IS(report.held, 1);
+    IS(report.failed_folds, 1);
+    AT(report, 4000, 1);
+
+    /* 19 for the first, since the counter of its wall is at its end; the second goes on. */
+    empty_desk();
+    ours.last_wall = 4000;
+    ours.last_counter = UINT32_MAX;
+    report = apply(usual, 1000, first_batch, sizeof first_batch);
+    ACCEPTED(report.told);
+    IS(report.failed_folds, 1);
+    AT(report, 5000, 2);
+}
+
 static void floors(void)
 {
     cuwelfra_stamp_told floor;
 
-    desk = empty_store;
+    empty_desk();
     floor = cuwelfra_floor(AREAS(desk));
     ACCEPTED(floor.told);
     IS(floor.present, 0);
@@ -618,9 +689,9 @@ static void fates(void)
         0, 0, 0, 0, 0, 0, 0, 1, 0, 0, 0, 0, 0, 0, 0, 5, CUWELFRA_FATE_DENIED, 0,
         0, 0, 0, 0, 0, 0, 0, 1, 0, 0, 0, 0, 0, 0, 0, 6, CUWELFRA_FATE_INVALID, 9,
     };
-    cuwelfra_merge_told report;
+    cuwelfra_delta_told report;
 
-    desk = empty_store;
+    empty_desk();
     ACCEPTED(cuwelfra_set_floor(AREAS(desk), 4500, 0, 1));
     report = apply(usual, 10000, batch, sizeof batch);
     IS(report.stale, 1);
@@ -634,7 +705,7 @@ static void fates(void)
 /* The desk after both batches: rows of authors 3, 1 and 2, in this order. */
 static void make_desk(void)
 {
-    desk = empty_store;
+    empty_desk();
     ACCEPTED(apply(usual, 10000, first_batch, sizeof first_batch).told);
     ACCEPTED(apply(usual, 10000, second_batch, sizeof second_batch).told);
 }
@@ -905,6 +976,7 @@ int main(void)
     refused_batches();
     short_areas();
     times();
+    folded_stamps();
     floors();
     fates();
     questions();

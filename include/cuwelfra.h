@@ -23,15 +23,15 @@ extern "C" {
 
 /* The number of the interface that this header declares. It is raised at each change of a call's signature, a struct,
    an area's layout or a size. */
-#define CUWELFRA_ABI 2
-/* 1 where the linked library has this number. A library that has another lacks the name cuwelfra_abi_2, so that a
+#define CUWELFRA_ABI 3
+/* 1 where the linked library has this number. A library that has another lacks the name cuwelfra_abi_3, so that a
    program that says this does not link with it. */
-#define CUWELFRA_ABI_FITS() (cuwelfra_abi_2() == CUWELFRA_ABI && cuwelfra_abi() == CUWELFRA_ABI)
+#define CUWELFRA_ABI_FITS() (cuwelfra_abi_3() == CUWELFRA_ABI && cuwelfra_abi() == CUWELFRA_ABI)
 
 /* The linked library's number. Refuses nothing. */
 uint64_t cuwelfra_abi(void);
 /* The same, by a name that has the number in it. */
-uint64_t cuwelfra_abi_2(void);
+uint64_t cuwelfra_abi_3(void);
 
 /* ---- Numbers by name */
 
@@ -229,7 +229,8 @@ typedef struct {
 } cuwelfra_op_told;
 
 /* What a batch call answers: rows logged and applied, stale or rejected, duplicates, rows held after it, held rows that
-   expired, ready rows that were not their author's next; all 0 when refused. */
+   expired, ready rows that were not their author's next; and how many stamps of the batch the hybrid clock refused, with
+   20 or 19. All 0 when refused. last_*: the hybrid clock moved on, as handed in when refused. */
 typedef struct {
     cuwelfra_told told;
     uint64_t applied;
@@ -239,7 +240,10 @@ typedef struct {
     uint64_t held;
     uint64_t expired;
     uint64_t dropped;
-} cuwelfra_merge_told;
+    uint64_t failed_folds;
+    uint64_t last_wall;
+    uint64_t last_counter;
+} cuwelfra_delta_told;
 
 /* A row to sign: its stamp, its sequence, how many dependencies it has, these, and how many bytes of output are to be
    signed. Places behind the count are 0. Refused: all of that is 0. last_*: the hybrid clock moved on, as handed in when
@@ -430,20 +434,25 @@ cuwelfra_clock_number cuwelfra_chunk_ops(const uint8_t *log, size_t log_len, con
 #define CUWELFRA_LINE_BYTES 18
 #define CUWELFRA_SCRATCH_BYTES 704
 
-/* Applies a batch. The eight numbers are the settings and the time in ms. For each logged row, in logging order, 18
-   bytes go into output: author and sequence, big-endian, fate (a CUWELFRA_FATE_; that of a rejected row is its outcome
-   plus 1), detail (0 for applied and stale). Later bytes stay. Output has CUWELFRA_LINE_BYTES and scratch
-   CUWELFRA_SCRATCH_BYTES for each row that is held before the call and each row of the batch; scratch is all zero after
-   every call.
+/* Applies a batch; then, where it is accepted, folds its stamps into a hybrid clock.
+   The first eight numbers are the settings and the time in ms. For each logged row, in logging order, 18 bytes go into
+   output: author and sequence, big-endian, fate (a CUWELFRA_FATE_; that of a rejected row is its outcome plus 1), detail
+   (0 for applied and stale). Later bytes stay. Output has CUWELFRA_LINE_BYTES and scratch CUWELFRA_SCRATCH_BYTES for each
+   row that is held before the call and each row of the batch; scratch is all zero after every call.
+   The next four are a hybrid clock, which goes in by value. The stamp of every row of the batch is folded in as
+   cuwelfra_hybrid_update does it, at time_ms, in the order of the batch, duplicates and held rows too. A stamp that it
+   refuses is counted in failed_folds and leaves the clock, and the next goes on: 20 where it is further ahead of time_ms
+   than clock_max_drift_ms, which may differ from max_drift_ms, then 19. Keep the clock that comes back: the next stamp
+   that it issues is above every stamp that was folded in. A batch without rows leaves it.
    4 for max_pending above 64, max_deps above 16 or max_payload above 256; 2 for the store, 1; 3 and 4 in reading; 2 for
-   output and scratch; 5 to 12 row by row in that order, 13 by row, 14 to 18. */
-cuwelfra_merge_told cuwelfra_apply_remote_ops(uint64_t max_pending, uint64_t max_pending_per_actor,
-                                              uint64_t max_pending_bytes, uint64_t max_pending_age_ms,
-                                              uint64_t max_drift_ms, uint64_t max_deps, uint64_t max_payload,
-                                              uint64_t time_ms, uint8_t *log, size_t log_len, uint8_t *held,
-                                              size_t held_len, uint8_t *head, size_t head_len, const uint8_t *batch,
-                                              size_t batch_len, uint8_t *scratch, size_t scratch_len, uint8_t *output,
-                                              size_t output_len);
+   output and scratch; 5 to 12 row by row in that order, 13 by row, 14 to 18. A refused batch folds nothing in. */
+cuwelfra_delta_told cuwelfra_apply_delta(uint64_t max_pending, uint64_t max_pending_per_actor,
+                                         uint64_t max_pending_bytes, uint64_t max_pending_age_ms, uint64_t max_drift_ms,
+                                         uint64_t max_deps, uint64_t max_payload, uint64_t time_ms, uint64_t actor,
+                                         uint64_t last_wall, uint32_t last_counter, uint64_t clock_max_drift_ms,
+                                         uint8_t *log, size_t log_len, uint8_t *held, size_t held_len, uint8_t *head,
+                                         size_t head_len, const uint8_t *batch, size_t batch_len, uint8_t *scratch,
+                                         size_t scratch_len, uint8_t *output, size_t output_len);
 /* Raises the floor to a stamp, and never lowers it. Rows that are logged from then on with stamps at or below it are
    stale. Refusals as for the other calls on a store. */
 cuwelfra_told cuwelfra_set_floor(const uint8_t *log, size_t log_len, const uint8_t *held, size_t held_len, uint8_t *head,

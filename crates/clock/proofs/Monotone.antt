@@ -25,13 +25,13 @@ Before a b = (a .l < b .l) ⊎ ((a .l ≡ b .l) × (a .c < b .c))
 abbrev pub UpTo : Hlc → Hlc → Type 0
 UpTo a b = (a .l < b .l) ⊎ ((a .l ≡ b .l) × (a .c ≤ b .c))
 
-up-to-before : (a b e : Hlc) → UpTo a b → Before b e → Before a e
+pub up-to-before : (a b e : Hlc) → UpTo a b → Before b e → Before a e
 up-to-before a b e (inl h) (inl k) = inl (omega arith)
 up-to-before a b e (inl h) (inr k) = inl (omega arith)
 up-to-before a b e (inr h) (inl k) = inl (omega arith)
 up-to-before a b e (inr h) (inr k) = inr (omega arith, omega arith)
 
-before-up-to : (a b : Hlc) → Before a b → UpTo a b
+pub before-up-to : (a b : Hlc) → Before a b → UpTo a b
 before-up-to a b (inl h) = inl h
 before-up-to a b (inr h) = inr (h .0, omega arith)
 

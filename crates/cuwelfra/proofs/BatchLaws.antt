@@ -5,15 +5,18 @@ use mathlib.Core.List.{List}
 use Rattle.error.specs.declared.Told.{Told}
 use Rattle.error.specs.Answer.{Answer, toldBy, ends}
 use Rattle.clock.specs.declared.stamp.Timestamp.{Timestamp}
+use Rattle.clock.specs.declared.hybrid.HybridClock.{HybridClock}
 use Rattle.log.specs.Areas.{Areas}
 use Rattle.merging.specs.Batch.{Limits}
-use Rattle.merging.specs.Merging.{Report}
-use Rattle.merging.specs.Calls.{BatchCall, Lent, batchCall, setFloorCall}
+use Rattle.merging.specs.Calls.{BatchCall, Lent, setFloorCall}
+use Rattle.merging.specs.Delta.{deltaCall}
 use Rattle.batch.specs.declared.MergeLimits.{MergeLimits}
 use Rattle.batch.specs.Settings.{limitsOf}
-use Rattle.cuwelfra.specs.declared.batches.MergeTold.{MergeTold}
+use Rattle.merge.specs.Reports.{joinedOf}
+use Rattle.merge.specs.declared.Joined.{Joined}
+use Rattle.cuwelfra.specs.declared.batches.DeltaTold.{DeltaTold}
 use Rattle.cuwelfra.specs.Exports.{exported}
-use Rattle.cuwelfra.specs.Batches.{limitsBy, mergeTold}
+use Rattle.cuwelfra.specs.Batches.{limitsBy, deltaTold}
 use Rattle.cuwelfra.proofs.ExportLaws.{exports}
 
 limits-are : (m : MergeLimits)
@@ -26,16 +29,16 @@ limits-are m = refl
 abbrev brought : Limits → ℕ → (batch scratch output : List ℕ) → BatchCall
 brought l time batch scratch output = record { limits = l; time = time; batch = batch; scratch = scratch; output = output }
 
-pub batch-told : (a : Areas) (m : MergeLimits) (time : ℕ) (batch scratch output : List ℕ) (l : Lent) (answer : Answer Report) (r : MergeTold)
-    → ends answer l ≡ batchCall a (brought (limitsOf m) time batch scratch output) → r ≡ mergeTold answer
+pub delta-exported : (a : Areas) (m : MergeLimits) (j k : HybridClock) (time : ℕ) (batch scratch output : List ℕ) (l : Lent) (x : Joined) (r : DeltaTold)
+    → j ≡ k → joinedOf x l ≡ deltaCall a j (brought (limitsOf m) time batch scratch output) → ((l : Lent) → (r, l) ≡ deltaTold (joinedOf x l))
     → (r, l)
-    ≡ exported mergeTold
-    (batchCall a
+    ≡ deltaTold
+    (deltaCall a k
     (brought
     (limitsBy (m .«max_pending») (m .«max_pending_per_actor») (m .«max_pending_bytes») (m .«max_pending_age_ms») (m .«max_drift_ms») (m .«max_deps») (m .«max_payload»))
     time batch scratch output))
-batch-told a m time batch scratch output l answer r b e =
-    exports mergeTold r answer l _ e (b ∙ ap (λ (x : Limits). batchCall a (brought x time batch scratch output)) (limits-are m))
+delta-exported a m j k time batch scratch output l x r e b q =
+    q l ∙ ap deltaTold (b ∙ (λ i. deltaCall a (e i) (brought (limits-are m i) time batch scratch output)))
 
 pub floor-told : (a b : Areas) (t u : Timestamp) (answer : Answer Unit) (r : Told) → t ≡ u → ends answer b ≡ setFloorCall a t → r ≡ toldBy answer
     → (r, b) ≡ exported toldBy (setFloorCall a u)

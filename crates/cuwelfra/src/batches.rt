@@ -1,19 +1,20 @@
 // The batch call and the floor: crate merge.
 use batch::MergeLimits;
 use error::Told;
-use merge::Applied;
+use merge::Joined;
 ghost use mathlib.Core.Path.{_≡_};
 ghost use Rattle.error.specs.Answer.{toldBy};
 ghost use Rattle.log.specs.Areas.{areas};
-ghost use Rattle.merging.specs.Calls.{batchCall, setFloorCall};
-ghost use Rattle.cuwelfra.specs.Hybrids.{stampBy};
+ghost use Rattle.merging.specs.Calls.{Lent, setFloorCall};
+ghost use Rattle.merging.specs.Delta.{deltaCall};
+ghost use Rattle.merge.specs.Reports.{joinedOf};
+ghost use Rattle.cuwelfra.specs.Hybrids.{clockBy, stampBy};
 ghost use Rattle.cuwelfra.specs.Exports.{exported};
-ghost use Rattle.cuwelfra.specs.Batches.{limitsBy, mergeTold};
-ghost use Rattle.merge.specs.Reports.{appliedOf};
+ghost use Rattle.cuwelfra.specs.Batches.{limitsBy, deltaTold};
 
-// The refusal, or the counts of an accepted batch.
+// The counts of an accepted batch, or the refusal; and the hybrid clock.
 #[repr(C)]
-pub struct MergeTold {
+pub struct DeltaTold {
     pub told: Told,
     pub applied: u64,
     pub stale: u64,
@@ -22,13 +23,20 @@ pub struct MergeTold {
     pub held: u64,
     pub expired: u64,
     pub dropped: u64,
+    pub failed_folds: u64,
+    pub last_wall: u64,
+    pub last_counter: u64,
 }
 
-pub(crate) fn merge_told(r: Applied) -> MergeTold
-    ensures { λ t. ⌜ t ≡ mergeTold (appliedOf r) ⌝ }
+fn delta_told(r: Joined) -> DeltaTold
+    ensures { λ t. ⌜ ((lent : Lent) → (t, lent) ≡ deltaTold (joinedOf r lent)) ⌝ }
 {
     match r {
-        Applied::Report(report) => MergeTold {
+        Joined::Report {
+            report,
+            failed,
+            clock,
+        } => DeltaTold {
             told: crate::bytes::accept(),
             applied: report.applied,
             stale: report.stale,
@@ -37,8 +45,11 @@ pub(crate) fn merge_told(r: Applied) -> MergeTold
             held: report.held,
             expired: report.expired,
             dropped: report.dropped,
+            failed_folds: failed,
+            last_wall: clock.last_wall,
+            last_counter: clock.last_counter as u64,
         },
-        Applied::Refused(refusal) => MergeTold {
+        Joined::Refused { refusal, clock } => DeltaTold {
             told: error::tell(refusal),
             applied: 0,
             stale: 0,
@@ -47,13 +58,16 @@ pub(crate) fn merge_told(r: Applied) -> MergeTold
             held: 0,
             expired: 0,
             dropped: 0,
+            failed_folds: 0,
+            last_wall: clock.last_wall,
+            last_counter: clock.last_counter as u64,
         },
     }
 }
 
-// Applies a batch of remote rows to the store.
+// Applies a batch of remote rows to the store, and folds their stamps into the hybrid clock.
 #[no_mangle]
-pub extern "C" fn cuwelfra_apply_remote_ops(
+pub extern "C" fn cuwelfra_apply_delta(
     max_pending: u64,
     max_pending_per_actor: u64,
     max_pending_bytes: u64,
@@ -62,14 +76,18 @@ pub extern "C" fn cuwelfra_apply_remote_ops(
     max_deps: u64,
     max_payload: u64,
     time_ms: u64,
+    actor: u64,
+    last_wall: u64,
+    last_counter: u32,
+    clock_max_drift_ms: u64,
     log: &mut [u8],
     held: &mut [u8],
     head: &mut [u8],
     batch: &[u8],
     scratch: &mut [u8],
     output: &mut [u8],
-) -> MergeTold
-    ensures { λ r. ⌜ (r, record { areas = areas (now (log .exit)) (now (held .exit)) (now (head .exit)); scratch = now (scratch .exit); output = now (output .exit) }) ≡ exported mergeTold (batchCall (areas (now (log .entry)) (now (held .entry)) (now (head .entry))) (record { limits = limitsBy «max_pending» «max_pending_per_actor» «max_pending_bytes» «max_pending_age_ms» «max_drift_ms» «max_deps» «max_payload»; time = «time_ms»; batch = now (batch .entry); scratch = now (scratch .entry); output = now (output .entry) })) ⌝ }
+) -> DeltaTold
+    ensures { λ r. ⌜ (r, record { areas = areas (now (log .exit)) (now (held .exit)) (now (head .exit)); scratch = now (scratch .exit); output = now (output .exit) }) ≡ deltaTold (deltaCall (areas (now (log .entry)) (now (held .entry)) (now (head .entry))) (clockBy actor «last_wall» «last_counter» «clock_max_drift_ms») (record { limits = limitsBy «max_pending» «max_pending_per_actor» «max_pending_bytes» «max_pending_age_ms» «max_drift_ms» «max_deps» «max_payload»; time = «time_ms»; batch = now (batch .entry); scratch = now (scratch .entry); output = now (output .entry) })) ⌝ }
 {
     let limits = MergeLimits {
         max_pending: max_pending,
@@ -80,9 +98,11 @@ pub extern "C" fn cuwelfra_apply_remote_ops(
         max_deps: max_deps,
         max_payload: max_payload,
     };
-    merge_told(merge::call::apply_remote_ops(
+    let hybrid = crate::hybrid::clock_by(actor, last_wall, last_counter, clock_max_drift_ms);
+    delta_told(merge::delta::apply_delta(
         limits,
         time_ms,
+        hybrid,
         log,
         held,
         head,

@@ -26,10 +26,11 @@ use Rattle.quota.specs.inside.Room.{rowsLogged, Rooms}
 use Rattle.commit.specs.declared.Fates.{Fates}
 use Rattle.commit.specs.inside.Logging.{AllLogged}
 use Rattle.merge.specs.inside.Decision.{Opened, Judged, Accepts, Merges, Decides, CommitNeeds, Commits, callOf}
-use Rattle.merge.specs.Reports.{reportOf, appliedOf}
+use Rattle.merge.specs.inside.Applying.{appliedOf}
+use Rattle.merge.specs.Reports.{reportOf}
 use Rattle.merge.specs.declared.MergeReport.{MergeReport}
-use Rattle.merge.specs.declared.Applied.{Applied}
-use Rattle.merge.specs.declared.Applied.the-variants as applied
+use Rattle.merge.specs.declared.call.Applied.{Applied}
+use Rattle.merge.specs.declared.call.Applied.the-variants as applied
 use Rattle.merge.specs.declared.deciding.Decision.{Decision}
 use Rattle.merge.specs.declared.deciding.Decision.the-variants as decision
 use Rattle.working.proofs.ScratchColumns.{length-cells}

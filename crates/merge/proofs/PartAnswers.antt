@@ -14,7 +14,10 @@ use Rattle.log.specs.Areas.{Areas}
 use Rattle.merging.specs.Batch.{Limits, readRows}
 use Rattle.merging.specs.Merging.{admitAll, starting, unexpired}
 use Rattle.merging.specs.Calls.{roomFor, batchAnswer}
-use Rattle.merge.specs.inside.Decision.{Opened, Prepares, SettledRows, Settles, Accepts, Decides, callOf}
+use Rattle.merge.specs.inside.Decision.{Opened, Prepares, SettledRows, Settles, Accepts, Decides, RowsBegin, StartsKnown, decidedOf, callOf}
+use Rattle.merge.specs.inside.Applying.{appliedOf}
+use Rattle.merge.specs.declared.call.Applied.{Applied}
+use Rattle.merge.specs.declared.call.Applied.the-variants as applied
 use Rattle.merge.specs.declared.deciding.Prepared.{Prepared}
 use Rattle.merge.specs.declared.deciding.Prepared.the-variants as prepared
 use Rattle.merge.specs.declared.deciding.Settled.{Settled}
@@ -40,6 +43,21 @@ module _ (a : Areas) (l : Limits) (time : ℕ) (batch scratch output : List ℕ)
       → batchAnswer a (callOf l time batch scratch output) ≡ refused f
   was-denied starts r f e p = denied starts f (rw e at p)
 
+  -- where the rows of a batch start that was read
+  pub begins : (starts : List ℕ) (n count : ℕ) → Opened a l time batch scratch starts n count → RowsBegin batch starts
+  begins starts n count o =
+      let t = o .taken in
+      record {
+        rows = t .rows;
+        first = o .first;
+        end = t .end;
+        brings = t .brings;
+        from = rw (t .counted) (t .from);
+        starts-are = rw (t .counted) (o .starts-are);
+        few = rw (t .counted) (t .few);
+        room = rw (t .counted) (o .starts-room);
+      }
+
   -- an accepted batch
   pub record Accepted (t : List ℕ) (waiting logged expired duplicates dropped : ℕ) : Type 0 where
     pub accepts : Accepts a l time batch t waiting logged expired duplicates dropped
@@ -60,6 +78,17 @@ module _ (a : Areas) (l : Limits) (time : ℕ) (batch scratch output : List ℕ)
   pub was-refused : (t : List ℕ) (r : Decision) (f : Refusal) → r ≡ decision.Refused f → Decides a l time batch scratch output t r
       → batchAnswer a (callOf l time batch scratch output) ≡ refused f
   was-refused t r f e d = turned t f (rw e at d)
+
+pub starts-known : (batch starts : List ℕ) (r : Decision) → RowsBegin batch starts → StartsKnown (decidedOf r) batch starts
+starts-known batch starts (decision.Accepted waiting logged expired duplicates dropped) b = b
+starts-known batch starts (decision.Refused f) b = tt
+
+pub starts-are-known : (batch starts : List ℕ) (r : Decision) (waiting logged expired duplicates dropped : ℕ)
+    → r ≡ decision.Accepted waiting logged expired duplicates dropped → StartsKnown (decidedOf r) batch starts → RowsBegin batch starts
+starts-are-known batch starts r waiting logged expired duplicates dropped e k = rw e at k
+
+pub none-known : (batch starts : List ℕ) (x : Applied) (f : Refusal) → x ≡ applied.Refused f → StartsKnown (appliedOf x) batch starts
+none-known batch starts x f e = rw e tt
 
 module _ (held batch head t : List ℕ) (count cutoff : ℕ) (starts : List ℕ) (n : ℕ) where
   rows-of : (waiting logged expired duplicates dropped authors : ℕ)

@@ -1,5 +1,4 @@
-// The batch call.
-use crate::Applied;
+// A batch merged, no stamp folded: the first part of the batch call, which no crate above can call.
 use crate::MergeReport;
 use crate::deciding::Decision;
 use crate::deciding::decide;
@@ -10,13 +9,20 @@ use commit::raw::log_rows;
 use error::Refusal;
 use words::raw::put_word;
 ghost use mathlib.Core.Path.{_≡_};
+ghost use Prim.Native.Nat.{_≤_};
 ghost use lib.ListN.{length, replicate};
 ghost use Rattle.error.specs.Answer.{ends};
 ghost use Rattle.log.specs.Areas.{areas};
 ghost use Rattle.merging.specs.Calls.{batchCall};
 ghost use Rattle.batch.specs.Settings.{limitsOf};
-ghost use Rattle.merge.specs.inside.Decision.{CommitNeeds, Commits};
-ghost use Rattle.merge.specs.Reports.{appliedOf};
+ghost use Rattle.merge.specs.inside.Decision.{CommitNeeds, Commits, StartsKnown};
+ghost use Rattle.merge.specs.inside.Applying.{appliedOf};
+
+// The report of a batch that was merged, or the refusal.
+pub(crate) enum Applied {
+    Report(MergeReport),
+    Refused(Refusal),
+}
 
 // Writes what was decided: lines and log, the held rows, their count.
 fn commit(
@@ -49,8 +55,8 @@ fn refuse(area: &mut [u8], r: Refusal) -> Applied
 }
 
 // Applies a batch of remote rows: the report, or the refusal. A refused call leaves all but scratch; scratch is zero
-// after every call.
-pub fn apply_remote_ops(
+// after every call. `starts` then has where each row of an accepted batch starts.
+pub(crate) fn apply_remote_ops(
     limits: MergeLimits,
     time: u64,
     log: &mut [u8],
@@ -59,10 +65,23 @@ pub fn apply_remote_ops(
     batch: &[u8],
     scratch: &mut [u8],
     output: &mut [u8],
+    starts: &mut [u64],
 ) -> Applied
-    ensures { λ r. ⌜ ends (appliedOf r) (record { areas = areas (now (log .exit)) (now (held .exit)) (now (head .exit)); scratch = now (scratch .exit); output = now (output .exit) }) ≡ batchCall (areas (now (log .entry)) (now (held .entry)) (now (head .entry))) (record { limits = limitsOf limits; time = time; batch = now (batch .entry); scratch = now (scratch .entry); output = now (output .entry) }) ⌝ }
+    requires { ⌜ 64 ≤ length (now starts) ⌝ }
+    ensures leaves { λ r. ⌜ ends (appliedOf r) (record { areas = areas (now (log .exit)) (now (held .exit)) (now (head .exit)); scratch = now (scratch .exit); output = now (output .exit) }) ≡ batchCall (areas (now (log .entry)) (now (held .entry)) (now (head .entry))) (record { limits = limitsOf limits; time = time; batch = now (batch .entry); scratch = now (scratch .entry); output = now (output .entry) }) ⌝ }
+    ensures begin { λ r. ⌜ StartsKnown (appliedOf r) (now (batch .entry)) (now (starts .exit)) ⌝ }
 {
-    let decision = decide(limits, time, log, held, head, batch, scratch, output);
+    let decision = decide(
+        limits,
+        time,
+        log,
+        held,
+        head,
+        batch,
+        scratch,
+        output,
+        starts,
+    );
     match decision {
         Decision::Refused(r) => refuse(scratch, r),
         Decision::Accepted {

@@ -1,4 +1,4 @@
-// What a batch call answers, decided before anything but scratch is written.
+// What a batch comes to, decided before any area but scratch is written.
 use batch::MergeLimits;
 use batch::raw::read_batch;
 use batch::settings::are_within;
@@ -20,7 +20,7 @@ ghost use Rattle.clock.specs.Vector.{outcomeOf};
 ghost use Rattle.log.specs.Areas.{areas};
 ghost use Rattle.merging.specs.Calls.{roomFor};
 ghost use Rattle.batch.specs.Settings.{limitsOf};
-ghost use Rattle.merge.specs.inside.Decision.{Opened, TakesIn, Prepares, SettleNeeds, Settles, JudgeNeeds, Judged, Merges, Decides};
+ghost use Rattle.merge.specs.inside.Decision.{Opened, TakesIn, Prepares, SettleNeeds, Settles, JudgeNeeds, Judged, Merges, Decides, decidedOf, StartsKnown};
 
 // A batch that was read and validated: how many rows it has, and how many rows are held.
 pub(crate) enum Prepared {
@@ -248,7 +248,7 @@ fn decide_rows(
     }
 }
 
-// What a batch call answers.
+// What a batch comes to. `starts` then has where each row of an accepted one starts.
 pub(crate) fn decide(
     limits: MergeLimits,
     time: u64,
@@ -258,10 +258,12 @@ pub(crate) fn decide(
     batch: &[u8],
     scratch: &mut [u8],
     output: &[u8],
+    starts: &mut [u64],
 ) -> Decision
-    ensures { λ r. ⌜ Decides (areas (now (log .entry)) (now (held .entry)) (now (head .entry))) (limitsOf limits) time (now (batch .entry)) (now (scratch .entry)) (now (output .entry)) (now (scratch .exit)) r ⌝ }
+    requires { ⌜ 64 ≤ length (now starts) ⌝ }
+    ensures decides { λ r. ⌜ Decides (areas (now (log .entry)) (now (held .entry)) (now (head .entry))) (limitsOf limits) time (now (batch .entry)) (now (scratch .entry)) (now (output .entry)) (now (scratch .exit)) r ⌝ }
+    ensures begin { λ r. ⌜ StartsKnown (decidedOf r) (now (batch .entry)) (now (starts .exit)) ⌝ }
 {
-    let mut starts = [0u64; 64];
     let prepared = prepare(
         limits,
         time,
@@ -271,7 +273,7 @@ pub(crate) fn decide(
         batch,
         scratch,
         output,
-        &mut starts,
+        starts,
     );
     match prepared {
         Prepared::Refused(r) => Decision::Refused(r),
@@ -283,7 +285,7 @@ pub(crate) fn decide(
             head,
             batch,
             scratch,
-            &starts,
+            starts,
             rows,
             count,
         ),

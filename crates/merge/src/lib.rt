@@ -1,8 +1,11 @@
-// From src/merge.rs: the batch call, and the floor.
-mod deciding; // what a batch call answers; nothing but scratch is written
-pub mod call; // the batch call
+// From src/merge.rs and src/engine.rs: the batch call, which folds the stamps into the hybrid clock too, and the floor.
+mod deciding; // what a batch comes to; no area but scratch is written
+mod call; // a batch merged
+mod folding; // its stamps folded into the hybrid clock
+pub mod delta; // the batch call: both in one
 pub mod floor; // setting the floor
 
+use clock::hybrid::HybridClock;
 use error::Refusal;
 
 // Counts from one accepted batch.
@@ -23,7 +26,15 @@ pub struct MergeReport {
     pub dropped: u64,
 }
 
-pub enum Applied {
-    Report(MergeReport),
-    Refused(Refusal),
+// The report, how many stamps could not be folded, and the clock moved on; or the refusal with the clock as it was.
+pub enum Joined {
+    Report {
+        report: MergeReport,
+        failed: u64,
+        clock: HybridClock,
+    },
+    Refused {
+        refusal: Refusal,
+        clock: HybridClock,
+    },
 }

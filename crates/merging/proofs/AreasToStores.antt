@@ -8,6 +8,7 @@ use lib.ListN.{length}
 use Rattle.words.specs.Be.{AllBytes}
 use Rattle.error.specs.Answer.{Answer, done, refused, nothing}
 use Rattle.clock.specs.declared.stamp.Timestamp.{Timestamp}
+use Rattle.clock.specs.declared.hybrid.HybridClock.{HybridClock}
 use Rattle.row.specs.Rows.{Row, stampOk}
 use Rattle.log.specs.Store.{Store, rules}
 use Rattle.log.specs.Areas.{Areas, capacity, readStore, writeStore, leave}
@@ -17,10 +18,11 @@ use Rattle.log.proofs.store.RulesKept.{insert-rules}
 use Rattle.merging.specs.Batch.{readBatch}
 use Rattle.merging.specs.Merging.{Merged, merge}
 use Rattle.merging.specs.Calls.{BatchCall, batchAnswer, batchEnds, batchCall, withFloor, setFloorCall}
+use Rattle.merging.specs.Delta.{deltaEnds, deltaCall}
 use Rattle.merging.specs.Desk.{readSealed, sealAnswer, sealCall}
 use Rattle.merging.specs.Offers.{Call, Given, afterCall, runCalls, rowsRead, rowRead, whenAccepted, offeredBy, offered, Accepted, acceptedBy, accepted, MayStand, AllMayStand}
 use Rattle.merging.specs.Trace.{Answered}
-use Rattle.merging.proofs.Traces.{merge-went, call-answered}
+use Rattle.merging.proofs.Traces.{merge-went, call-answered, endsBy}
 use Rattle.merging.proofs.RulesKept.{merge-rules, floor-rules}
 use Rattle.merging.proofs.BatchRows.{brought}
 use Rattle.merging.proofs.Sealings.{Seals, row-sealed, SealAnswered, seal-answered, own-next}
@@ -89,13 +91,13 @@ pub record Reaches (a : Areas) (o : List Row) (t : List Accepted) : Type 0 where
   pub run : Run o t store
 
 module _ (a : Areas) (o : List Row) (t : List Accepted) (r : Reaches a o t) where
-  -- a batch call, refused or accepted
-  after-batch : (c : BatchCall) → c .time < 2 ^ 64 → AllBytes (c .batch) → (x : Answer Merged) → batchAnswer a c ≡ x
-      → Reaches (batchEnds a c x .left .areas) (o ++ whenAccepted (batchEnds a c x .answer) (rowsRead (readBatch (c .batch))))
-      (t ++ whenAccepted (batchEnds a c x .answer) (accepting (c .time) (c .limits) ∷ []))
-  unfolding batchEnds
-  after-batch c now bytes (refused f) e = rw (append-nil o, append-nil t) r
-  after-batch c now bytes (done m) e =
+  -- a joined call, refused or accepted
+  after-batch : (j : HybridClock) (c : BatchCall) → c .time < 2 ^ 64 → AllBytes (c .batch) → (x : Answer Merged) → batchAnswer a c ≡ x
+      → Reaches (endsBy a j c x .left .lent .areas) (o ++ whenAccepted (endsBy a j c x .answer) (rowsRead (readBatch (c .batch))))
+      (t ++ whenAccepted (endsBy a j c x .answer) (accepting (c .time) (c .limits) ∷ []))
+  unfolding batchEnds deltaEnds
+  after-batch j c now bytes (refused f) e = rw (append-nil o, append-nil t) r
+  after-batch j c now bytes (done m) e =
       let w = call-answered a c m e in
       let h : readStore a ≡ done (r .store) = r .holds in
       let p : w .store ≡ r .store = cc (w .reads) in
@@ -133,8 +135,8 @@ module _ (a : Areas) (o : List Row) (t : List Accepted) (r : Reaches a o t) wher
       })
 
   after-call : (c : Call) → Given c → MayStand a o c → Reaches (afterCall a c) (o ++ offeredBy a c) (t ++ acceptedBy a c)
-  unfolding afterCall offeredBy acceptedBy batchCall sealCall
-  after-call (Call.batch c) g may = after-batch c (g .0) (g .1) (batchAnswer a c) refl
+  unfolding afterCall offeredBy acceptedBy batchCall deltaCall sealCall
+  after-call (Call.batch j c) g may = after-batch j c (g .0) (g .1) (batchAnswer a c) refl
   after-call (Call.floor x) g may =
       rw (append-nil o, append-nil t)
       (record { store = withFloor (r .store) x; holds = floor-holds a (r .store) (r .holds) x g; run = Run.floor x (r .run) })

@@ -16,8 +16,9 @@ use Rattle.log.specs.Store.{Store}
 use Rattle.log.specs.Areas.{rowsOf}
 use Rattle.merging.specs.Merging.{unexpired, sameContent, Known, absent, present, look, enter, Admitted, starting, arrived, duplicate, whenKnown, admit, admitAll, ready, FirstReady, noneReady, firstIs, past, firstReady, Drained, logging, dropping, takeFirst, toDrain, drain, fate, Report, Merged, commit, report, settle, inTime}
 use Rattle.merging.specs.Calls.{batchAnswer, batchEnds, batchCall}
-use Rattle.merging.specs.Balance.{Sums, Balance, BatchBalance}
-use Rattle.merging.proofs.Traces.{unless-done, then-done, not-refused, insert-held, merge-went, call-answered}
+use Rattle.merging.specs.Delta.{deltaEnds, deltaCall}
+use Rattle.merging.specs.Balance.{Sums, Balance, DeltaBalance}
+use Rattle.merging.proofs.Traces.{unless-done, then-done, not-refused, insert-held, merge-went, call-answered, endsBy}
 use Rattle.words.specs.Lists.{countIf}
 
 -- ---- 1. expiring removes rows
@@ -164,15 +165,15 @@ balance cap l time s rows m e =
       held-after = held ∙ sym (ap (λ (t : Store). length (t .held)) (w .store) ∙ ap length (insert-held _ (rowsOf (d .logged))));
     }
 
-pub batch-balance : BatchBalance
-unfolding batchCall batchEnds
-batch-balance a c s rows r es er = by-answer (batchAnswer a c) refl
+pub delta-balance : DeltaBalance
+unfolding batchCall batchEnds deltaCall deltaEnds
+delta-balance a j c s rows x es er = by-answer (batchAnswer a c) refl
   where
-    by-answer : (x : Answer Merged) → batchAnswer a c ≡ x → batchEnds a c x .answer ≡ done r → Sums (length (s .held)) (length rows) r
+    by-answer : (y : Answer Merged) → batchAnswer a c ≡ y → endsBy a j c y .answer ≡ done x → Sums (length (s .held)) (length rows) (x .report)
     by-answer (refused f) e q = absurd (not-refused q)
     by-answer (done m) e q =
         let w = call-answered a c m e in
         let p : w .store ≡ s = cc in
         let o : w .rows ≡ rows = cc in
-        let t : m .report ≡ r = cc in
+        let t : m .report ≡ x .report = cc in
         rw (← p, ← o, ← t) (balance _ (c .limits) (c .time) (w .store) (w .rows) m (w .merges) .balance)

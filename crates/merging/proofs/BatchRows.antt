@@ -14,6 +14,14 @@ use Rattle.merging.specs.Batch.{readRows, whole, readBatch}
 use Rattle.merging.proofs.Traces.{not-refused, unless-done}
 use Rattle.merging.proofs.RulesKept.{Brings}
 
+-- a batch that was read, before its end was tested
+pub whole-got : (s : List ℕ) (g : Got (List BatchRow)) (rows : List BatchRow) → whole s g ≡ done rows → (next : ℕ) × (g ≡ got rows next)
+whole-got s (got r at) rows e =
+    let (t, f) = unless-done (eqb at (length s)) _ _ e in
+    let p : r ≡ rows = cc in
+    (at, rw p)
+whole-got s (bad r) rows e = absurd (not-refused e)
+
 module _ (s : List ℕ) (bytes : AllBytes s) where
   rows-brought : (n at : ℕ) (rows : List BatchRow) (next : ℕ) → readRows s at n ≡ got rows next → Brings rows
   unfolding readRows
@@ -31,17 +39,10 @@ module _ (s : List ℕ) (bytes : AllBytes s) where
         | inr k ↦ rows-brought n at₁ rest at₂ e₃ b k
       ]
 
-  whole-got : (g : Got (List BatchRow)) (rows : List BatchRow) → whole s g ≡ done rows → (next : ℕ) × (g ≡ got rows next)
-  whole-got (got r at) rows e =
-      let (t, f) = unless-done (eqb at (length s)) _ _ e in
-      let p : r ≡ rows = cc in
-      (at, rw p)
-  whole-got (bad r) rows e = absurd (not-refused e)
-
   pub brought : (rows : List BatchRow) → readBatch s ≡ done rows → Brings rows
   unfolding readBatch
   brought rows e =
-      let (next, f) = whole-got _ rows e in
+      let (next, f) = whole-got s _ rows e in
       let (n, at, f₁, f₂) = after-got (number s 0) _ f in
       let (t, f₃) = need-got (leb n 64) _ _ f₂ in
       rows-brought n at rows next f₃

@@ -10,15 +10,17 @@ use Rattle.error.specs.declared.Refusal.{Refusal}
 use Rattle.error.specs.declared.Refusal.the-variants.{OverCapacity, ShortArea}
 use Rattle.error.specs.Answer.{Answer, done, refused, nothing, andThen, unless}
 use Rattle.clock.specs.declared.stamp.Timestamp.{Timestamp}
+use Rattle.clock.specs.declared.hybrid.HybridClock.{HybridClock}
 use Rattle.row.specs.Rows.{Row}
 use Rattle.log.specs.Store.{Store}
 use Rattle.log.specs.Areas.{Areas, capacity, readStore, leave}
 use Rattle.merging.specs.Batch.{limitsOk, readBatch}
 use Rattle.merging.specs.Merging.{Merged, merge}
 use Rattle.merging.specs.Calls.{BatchCall, roomFor, batchAnswer, batchEnds, batchCall, withFloor, setFloorCall}
+use Rattle.merging.specs.Delta.{deltaEnds, deltaCall}
 use Rattle.merging.specs.Desk.{readSealed, sealRow, sealAnswer, sealCall}
 use Rattle.merging.specs.Offers.{Call, AllGiven, afterCall, runCalls, rowsRead, rowRead, whenAccepted, offeredBy, offered, Accepted, acceptedBy, accepted, MayStand, AllMayStand}
-use Rattle.merging.proofs.Traces.{call-answered}
+use Rattle.merging.proofs.Traces.{call-answered, endsBy}
 use Rattle.merging.proofs.StoreRuns.{accepting}
 use Rattle.merging.proofs.Sealings.{seal-answered}
 use Rattle.merging.proofs.AreasToStores.{batch-holds, batch-room, floor-holds, floor-room, seal-holds, seal-room}
@@ -60,7 +62,7 @@ traceSeal (refused f) s rows go = go s
 
 unfoldable pub trace : ℕ → List Call → Store → Trace
 trace cap [] s = record { store = s; offers = []; accepts = [] }
-trace cap (Call.batch c ∷ cs) s = traceBatch (answerOn cap s c) s c (λ s. trace cap cs s)
+trace cap (Call.batch j c ∷ cs) s = traceBatch (answerOn cap s c) s c (λ s. trace cap cs s)
 trace cap (Call.floor t ∷ cs) s = trace cap cs (withFloor s t)
 trace cap (Call.seal bytes signature ∷ cs) s =
     traceSeal (sealOn cap s bytes signature) s (rowRead (readSealed bytes signature)) (λ s. trace cap cs s)
@@ -72,35 +74,35 @@ pub record Traces (a : Areas) (cs : List Call) (t : Trace) : Type 0 where
   pub offers : offered a cs ≡ t .offers
   pub accepts : accepted a cs ≡ t .accepts
 
-answer-on : (a : Areas) (s : Store) → readStore a ≡ done s → (c : BatchCall) → batchAnswer a c ≡ answerOn (capacity (a .log)) s c
+pub answer-on : (a : Areas) (s : Store) → readStore a ≡ done s → (c : BatchCall) → batchAnswer a c ≡ answerOn (capacity (a .log)) s c
 unfolding batchAnswer answerOn
 answer-on a s h c = rw h
 
 room-after : (cs : List Call) {a b : Areas} → a ≡ b → capacity (runCalls a cs .log) ≡ capacity (runCalls b cs .log)
 room-after cs e = ap (λ (x : Areas). capacity (runCalls x cs .log)) e
 
--- a batch call, refused or accepted, and the calls behind it
+-- a joined call, refused or accepted, and the calls behind it
 module _ (cap : ℕ) (cs : List Call)
     (rest : (a : Areas) (s : Store) → readStore a ≡ done s → capacity (a .log) ≡ cap → Traces a cs (trace cap cs s))
     (a : Areas) (s : Store) (h : readStore a ≡ done s) (room : capacity (a .log) ≡ cap)
-    (c : BatchCall) (now : c .time < 2 ^ 64) (bytes : AllBytes (c .batch)) where
+    (j : HybridClock) (c : BatchCall) (now : c .time < 2 ^ 64) (bytes : AllBytes (c .batch)) where
   abbrev call : Call
-  call = Call.batch c
+  call = Call.batch j c
 
-  after-is : (x : Answer Merged) → batchAnswer a c ≡ x → afterCall a call ≡ batchEnds a c x .left .areas
-  unfolding afterCall batchCall
-  after-is x e = ap (λ (y : Answer Merged). batchEnds a c y .left .areas) e
+  after-is : (x : Answer Merged) → batchAnswer a c ≡ x → afterCall a call ≡ endsBy a j c x .left .lent .areas
+  unfolding afterCall batchCall deltaCall
+  after-is x e = ap (λ (y : Answer Merged). endsBy a j c y .left .lent .areas) e
 
-  offered-is : (x : Answer Merged) → batchAnswer a c ≡ x → offeredBy a call ≡ whenAccepted (batchEnds a c x .answer) (rowsRead (readBatch (c .batch)))
-  unfolding offeredBy batchCall
-  offered-is x e = ap (λ (y : Answer Merged). whenAccepted (batchEnds a c y .answer) (rowsRead (readBatch (c .batch)))) e
+  offered-is : (x : Answer Merged) → batchAnswer a c ≡ x → offeredBy a call ≡ whenAccepted (endsBy a j c x .answer) (rowsRead (readBatch (c .batch)))
+  unfolding offeredBy batchCall deltaCall
+  offered-is x e = ap (λ (y : Answer Merged). whenAccepted (endsBy a j c y .answer) (rowsRead (readBatch (c .batch)))) e
 
-  accepted-is : (x : Answer Merged) → batchAnswer a c ≡ x → acceptedBy a call ≡ whenAccepted (batchEnds a c x .answer) (accepting (c .time) (c .limits) ∷ [])
-  unfolding acceptedBy batchCall
-  accepted-is x e = ap (λ (y : Answer Merged). whenAccepted (batchEnds a c y .answer) (accepting (c .time) (c .limits) ∷ [])) e
+  accepted-is : (x : Answer Merged) → batchAnswer a c ≡ x → acceptedBy a call ≡ whenAccepted (endsBy a j c x .answer) (accepting (c .time) (c .limits) ∷ [])
+  unfolding acceptedBy batchCall deltaCall
+  accepted-is x e = ap (λ (y : Answer Merged). whenAccepted (endsBy a j c y .answer) (accepting (c .time) (c .limits) ∷ [])) e
 
   by-answer : (x : Answer Merged) → batchAnswer a c ≡ x → Traces a (call ∷ cs) (traceBatch x s c (λ s. trace cap cs s))
-  unfolding runCalls offered accepted batchEnds
+  unfolding runCalls offered accepted batchEnds deltaEnds
   by-answer (refused f) e =
       let t = rest a s h room in
       record {
@@ -173,10 +175,10 @@ pub traced : (cap : ℕ) (cs : List Call) → AllGiven cs → (a : Areas) (s : S
     → Traces a cs (trace cap cs s)
 unfolding runCalls offered accepted trace
 traced cap [] given a s h room = record { holds = h; room = refl; offers = refl; accepts = refl }
-traced cap (Call.batch c ∷ cs) given a s h room =
-    let g = given (Call.batch c) (List·Memᴰ·head refl) in
+traced cap (Call.batch j c ∷ cs) given a s h room =
+    let g = given (Call.batch j c) (List·Memᴰ·head refl) in
     let same : batchAnswer a c ≡ answerOn cap s c = rw room at (answer-on a s h c) in
-    by-answer cap cs (λ a s h room. traced cap cs (λ c m. given c (List·Memᴰ·tail m)) a s h room) a s h room c (g .0) (g .1) _ same
+    by-answer cap cs (λ a s h room. traced cap cs (λ c m. given c (List·Memᴰ·tail m)) a s h room) a s h room j c (g .0) (g .1) _ same
 traced cap (Call.floor t ∷ cs) given a s h room =
     let g = given (Call.floor t) (List·Memᴰ·head refl) in
     let r = traced cap cs (λ c m. given c (List·Memᴰ·tail m)) (setFloorCall a t .left) (withFloor s t) (floor-holds a s h t g) (floor-room a s h t g ∙ room) in

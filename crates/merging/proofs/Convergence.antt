@@ -1,9 +1,9 @@
--- Demand 3 of document 01, "Call lists and fair offers", with the sealings of document 02, ticket 1, for two whole lists of calls over bytes. `Demand3` and all
--- that it names stand in specs/Offers.antt; sentence by sentence:
+-- Demand 3 of document 01, "Call lists and fair offers", with the sealings and the joined call of document 02, for two whole lists of calls over bytes.
+-- `Demand3` and all that it names stand in specs/Offers.antt; sentence by sentence:
 --
 -- "A call list is any list of batch calls and floor settings on one store, refused ones included"           Call; the lists cs₁ and cs₂
 -- "It starts from an empty store: no row logged or held, no number in the clock, no watermark"              Empty a₁, Empty a₂; any floor
--- "Each call gets the store as the last one returned or left it, and nothing else writes that store"        runCalls, by batchCall, setFloorCall and sealCall
+-- "Each call gets the store as the last one returned or left it, and nothing else writes that store"        runCalls, by deltaCall, setFloorCall and sealCall
 -- "batch, settings, time, floor and the other areas are any at all"                                         AllGiven: a batch's bytes are bytes, the time
 --                                                                                                           and a stamp's numbers fit their widths
 -- "A row is offered to a store when an accepted batch of its list holds it"                                 offered a₁ cs₁, offered a₂ cs₂
@@ -17,6 +17,8 @@
 -- settings, and no other sealing may"                                                                       AllMayStand a₁ [] cs₁, and of a₂, cs₂. That it asks no
 --                                                                                                           more than this: own-may-stand and refused-may-stand
 --                                                                                                           in OwnRows
+-- 02: "What is said about two stores covers the joined call; hybrid clocks are no part of that comparison"   Call.batch has any hybrid clock; Follows and Agree
+--                                                                                                           name none
 -- 01: "Causal listing: a list of rows offered to the store, not necessarily all, without repeats, each its
 -- author's next number from 1, each dependency at most the number of that author's rows before it"          CausalListing
 -- the log holds exactly the rows that a causal listing ends in, in one order; the clock is the log's; the
@@ -66,7 +68,7 @@ convergence a₁ a₂ cs₁ cs₂ given₁ given₂ empty₁ empty₂ may₁ may
 
 -- ---- there are empty stores: areas that are long enough, with nothing written to them
 
-empty-rules : rules (emptyStore none) ≡ true
+pub empty-rules : rules (emptyStore none) ≡ true
 unfolding rules derive all neverFalls sameEntries heldRise noTwice marksRise floorOk clockOk rising wordPairs
 empty-rules = refl
 

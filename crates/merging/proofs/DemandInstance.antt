@@ -34,7 +34,7 @@ use Rattle.log.specs.Store.{MaybeStamp, Store, derive, neverFalls, sameId, held
 use Rattle.log.specs.Calls.{readClock}
 use Rattle.log.specs.Areas.{Areas, areas, capacity, floorWords, encodeMarks, loggedRows, logBytes, heldBytes, headBytes, rowsOf, stampAt, floorAt, marksAt, decodeStore, countsOk, holds, soundAreas, longEnough, readStore}
 use Rattle.merging.specs.Merging.{sameContent}
-use Rattle.merging.specs.Calls.{raiseFloor}
+use Rattle.merging.specs.Calls.{BatchCall, raiseFloor}
 use Rattle.merging.specs.Desk.{PrepareCall, tooLarge, nextSeq, prepareAnswer, prepareEnds, prepareCall, signed, readSealed, sealRow, writable, sealTests}
 use Rattle.merging.specs.OwnRows.{CanPrepare, bytesToSign}
 use Rattle.merging.specs.Offers.{Call, Given, AllGiven, AllMayStand, Empty, batchRows, offered, Accepted, accepted, Spans, OneContent, Within, Converges}
@@ -93,10 +93,13 @@ bytes12 = unsigned12 ++ (2 ∷ 4 ∷ 2 ∷ 1 ∷ 0 ∷ 0 ∷ [])
 abbrev pub forged : List ℕ
 forged = 5 ∷ 0 ∷ 1 ∷ 1 ∷ 1 ∷ 0 ∷ 1 ∷ 8 ∷ 0 ∷ 0 ∷ 0 ∷ 0 ∷ []
 
--- a batch call at a time, under pending age 50
+-- what a call brings at a time, under pending age 50
+abbrev pub bringing : ℕ → List ℕ → BatchCall
+bringing time bytes = record { limits = limits 64 50; time = time; batch = bytes; scratch = replicate 3520 0; output = replicate 90 0 }
+
+-- the joined call with it and a hybrid clock at 5/0
 abbrev pub bring : ℕ → List ℕ → Call
-bring time bytes =
-    Call.batch (record { limits = limits 64 50; time = time; batch = bytes; scratch = replicate 3520 0; output = replicate 90 0 })
+bring time bytes = Call.batch (own 5 0) (bringing time bytes)
 
 -- the times of the accepted batches span 50 and 10
 abbrev pub calls₁ : List Call
@@ -179,7 +182,7 @@ empty = record { store = emptyStore none; holds = blank-reads; log = refl; held 
 
 -- a call can be made, tested
 unfoldable canMake : Call → Bool
-canMake (Call.batch c) = ltb (c .time) (2 ^ 64) && byteList (c .batch)
+canMake (Call.batch j c) = ltb (c .time) (2 ^ 64) && byteList (c .batch)
 canMake (Call.floor t) = stampOk t
 canMake (Call.seal bytes signature) = byteList bytes && byteList signature
 
@@ -188,7 +191,7 @@ unfolding canMake
 given-tested cs t c m = by-call c (all-every canMake cs t c m)
   where
     by-call : (c : Call) → canMake c ≡ true → Given c
-    by-call (Call.batch c) h = (ltb-true _ _ (and-left _ _ h), list-bytes (c .batch) (and-right (ltb (c .time) (2 ^ 64)) _ h))
+    by-call (Call.batch j c) h = (ltb-true _ _ (and-left _ _ h), list-bytes (c .batch) (and-right (ltb (c .time) (2 ^ 64)) _ h))
     by-call (Call.floor t) h = h
     by-call (Call.seal bytes signature) h = (list-bytes bytes (and-left _ _ h), list-bytes signature (and-right (byteList bytes) _ h))
 

@@ -22,7 +22,7 @@ use Rattle.merging.specs.Batch.{Limits, limitsOk, readRows, readBatch, o
 use Rattle.merging.specs.Merging.{unexpired, sameStamp, sameContent, look, enter, whenKnown, admit, admitAll, ready, past, firstReady, takeFirst, drain, aboveFloor, fate, fateDetail, line, rowLine, lines, payloadBytes, authors, times, lower, lowestOver, authorQuota, quotas, Report, Merged, commit, report, settle, finish, merge, inTime}
 use Rattle.merging.specs.Calls.{roomFor}
 use Rattle.merging.specs.Offers.{logLess}
-use Rattle.merging.specs.Group.{stampOf, rowOf, given, held, emptyStore, settings, r21}
+use Rattle.merging.specs.Group.{stampOf, rowOf, held, emptyStore, settings, r21}
 use Rattle.words.specs.Lists.{same, countIf}
 use Rattle.words.specs.Choice.{saturating}
 use Rattle.log.specs.Insertion.{insertRow, later, raise, insert, insertAll, fits}
@@ -35,6 +35,10 @@ stamped t r = record { stamp = t; author = r .author; seq = r .seq; deps = r .de
 
 abbrev signed : List ℕ → Row → Row
 signed s r = record { stamp = r .stamp; author = r .author; seq = r .seq; deps = r .deps; payload = r .payload; signature = s }
+
+-- a rightly signed row of a batch with an outcome
+abbrev given : (outcome : ℕ) → Row → BatchRow
+given outcome r = record { row = r; closing = record { verdict = 1; outcome = outcome; detail = 0 } }
 
 -- a row of a batch with verdict, outcome and detail
 abbrev closed : ℕ → ℕ → ℕ → Row → BatchRow

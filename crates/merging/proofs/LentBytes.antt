@@ -9,17 +9,18 @@ use Rattle.log.specs.Areas.{capacity, readStore, writeStore, leave}
 use Rattle.log.specs.Insertion.{insert}
 use Rattle.merging.specs.Merging.{Merged}
 use Rattle.merging.specs.Calls.{batchAnswer, batchEnds, batchCall, withFloor, setFloorCall}
+use Rattle.merging.specs.Delta.{deltaEnds, deltaCall}
 use Rattle.merging.specs.Desk.{prepareAnswer, prepareEnds, prepareCall, sealAnswer, sealCall}
 use Rattle.merging.specs.LentBytes.{Unchanged, RefusedLeaves, FloorRefusedLeaves, FloorLeaves, PrepareRefusedLeaves, SealRefusedLeaves, SealedInto, SealLeaves}
-use Rattle.merging.proofs.Traces.{not-refused}
+use Rattle.merging.proofs.Traces.{not-refused, endsBy}
 use Rattle.merging.proofs.Sealings.{row-sealed, seal-answered}
 
 pub refused-leaves : RefusedLeaves
-unfolding batchCall batchEnds putAt
-refused-leaves a c r = by-answer (batchAnswer a c)
+unfolding batchCall batchEnds deltaCall deltaEnds putAt
+refused-leaves a j c r = by-answer (batchAnswer a c)
   where
-    by-answer : (x : Answer Merged) → batchEnds a c x .answer ≡ refused r → Unchanged a c (batchEnds a c x .left)
-    by-answer (refused f) e = record { areas-kept = refl; output-kept = refl; scratch-zero = refl }
+    by-answer : (x : Answer Merged) → endsBy a j c x .answer ≡ refused r → Unchanged a j c (endsBy a j c x .left)
+    by-answer (refused f) e = record { areas-kept = refl; output-kept = refl; scratch-zero = refl; hybrid-kept = refl }
     by-answer (done m) e = absurd (not-refused (sym e))
 
 pub floor-refused-leaves : FloorRefusedLeaves

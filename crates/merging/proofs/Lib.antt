@@ -23,6 +23,9 @@ pub mod DemandInstance
 pub mod Traces
 pub mod Balance
 pub mod LentBytes
+pub mod BatchCounters
+pub mod FoldedStamps
 pub mod Examples
 pub mod DeskExamples
+pub mod DeltaExamples
 pub mod Group

@@ -1,5 +1,5 @@
 -- What an accepted merge went through: the answers of its steps (specs/Trace).
-use Prim.Native.Nat.{ℕ, _+_, _-_}
+use Prim.Native.Nat.{ℕ, _+_}
 use mathlib.Core.Path.{_≡_, refl}
 use mathlib.Core.Bool.{Bool, true, false, _&&_}
 use mathlib.Core.List.{List, [], _∷_}
@@ -8,13 +8,15 @@ use lib.ListN.{length}
 use lib.Dec.{leb}
 use borrow.Author.Tests.{leb-true}
 use Rattle.error.specs.declared.Refusal.{Refusal}
-use Rattle.error.specs.Answer.{Answer, done, refused, andThen, unless, nothing}
+use Rattle.error.specs.Answer.{Answer, done, refused, andThen, unless, nothing, Ends}
+use Rattle.clock.specs.declared.hybrid.HybridClock.{HybridClock}
 use Rattle.row.specs.Rows.{Row}
 use Rattle.log.specs.Store.{Store}
-use Rattle.log.specs.Areas.{readStore}
+use Rattle.log.specs.Areas.{Areas, readStore}
 use Rattle.merging.specs.Batch.{limitsOk, readBatch, validateAll}
-use Rattle.merging.specs.Merging.{admitAll, quotas, commit, settle, finish, merge}
-use Rattle.merging.specs.Calls.{roomFor, batchAnswer}
+use Rattle.merging.specs.Merging.{admitAll, quotas, Merged, commit, settle, finish, merge}
+use Rattle.merging.specs.Calls.{BatchCall, roomFor, batchAnswer, batchEnds}
+use Rattle.merging.specs.Delta.{DeltaReport, DeltaLeft, deltaEnds}
 use Rattle.merging.specs.Trace.{Fits, MergeWent, CallAnswered}
 use Rattle.log.specs.Insertion.{insert, insertAll, fits}
 
@@ -82,3 +84,7 @@ call-answered a c m e =
     let (rows, r, e₃) = then-done (readBatch (c .batch)) _ e₂ in
     let (t, e₄) = unless-done (roomFor (length (s .held) + length rows) (c .scratch) (c .output)) _ _ e₃ in
     record { limits = p; store = s; reads = q; rows = rows; brings = r; room = t; merges = e₄ }
+
+-- how the joined call ends where merging answers x
+abbrev pub endsBy : Areas → HybridClock → BatchCall → Answer Merged → Ends DeltaReport DeltaLeft
+endsBy a j c x = deltaEnds j c (batchEnds a c x)

@@ -6,12 +6,14 @@ use mathlib.Core.List.{List}
 use lib.ListN.{length}
 use Rattle.words.specs.Names.{Time}
 use Rattle.error.specs.Answer.{done}
+use Rattle.clock.specs.declared.hybrid.HybridClock.{HybridClock}
 use Rattle.row.specs.Reading.{BatchRow}
 use Rattle.log.specs.Store.{Store}
 use Rattle.log.specs.Areas.{Areas, readStore}
 use Rattle.merging.specs.Batch.{Limits, readBatch}
 use Rattle.merging.specs.Merging.{Report, Merged, merge}
-use Rattle.merging.specs.Calls.{BatchCall, batchCall}
+use Rattle.merging.specs.Calls.{BatchCall}
+use Rattle.merging.specs.Delta.{DeltaReport, deltaCall}
 
 -- the sum, of a report
 abbrev pub Sums : (held-before rows : ℕ) → Report → Type 0
@@ -28,8 +30,8 @@ Balance =
     (cap : ℕ) (l : Limits) (time : Time) (s : Store) (rows : List BatchRow) (m : Merged) → merge cap l time s rows ≡ done m
     → Balanced (length (s .held)) (length rows) m
 
--- the same of the batch call over areas: its report is that of the store that the areas hold and of the rows that the batch holds
-abbrev pub BatchBalance : Type 0
-BatchBalance =
-    (a : Areas) (c : BatchCall) (s : Store) (rows : List BatchRow) (r : Report) → readStore a ≡ done s → readBatch (c .batch) ≡ done rows
-    → batchCall a c .answer ≡ done r → Sums (length (s .held)) (length rows) r
+-- the same of the joined call over areas: its report is that of the store that the areas hold and of the rows that the batch holds
+abbrev pub DeltaBalance : Type 0
+DeltaBalance =
+    (a : Areas) (j : HybridClock) (c : BatchCall) (s : Store) (rows : List BatchRow) (x : DeltaReport) → readStore a ≡ done s
+    → readBatch (c .batch) ≡ done rows → deltaCall a j c .answer ≡ done x → Sums (length (s .held)) (length rows) (x .report)

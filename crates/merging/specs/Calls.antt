@@ -1,4 +1,4 @@
--- The two calls over whole areas: a batch, and setting the floor. 01: "Order in a batch call: 4 for settings, 2 for store areas, then 1; 3 and 4 by the first
+-- Over whole areas: a batch merged, and setting the floor. 01: "Order in a batch call: 4 for settings, 2 for store areas, then 1; 3 and 4 by the first
 -- fault in reading; 2 for output and scratch; 5 to 12 row by row in that order; 13 by row; 14 to 18."
 use Prim.Native.Nat.{ℕ, _+_, _*_}
 use mathlib.Core.Bool.{Bool, _&&_}

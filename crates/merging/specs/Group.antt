@@ -2,10 +2,11 @@
 use Prim.Native.Nat.{ℕ, _-_, _^_}
 use mathlib.Core.Path.{_≡_}
 use mathlib.Core.Option.{none}
-use mathlib.Core.List.{List, [], _∷_}
+use mathlib.Core.List.{List, [], _∷_, _++_}
+use lib.ListN.{replicate}
 use Rattle.words.specs.Names.{Author, Seq, Time, Bytes, Clock}
 use Rattle.error.specs.Numbers.{told}
-use Rattle.error.specs.Answer.{Answer, done, refused, nothing, accepted, toldBy, Ends, ends, got}
+use Rattle.error.specs.Answer.{Answer, done, nothing, andThen, accepted, toldBy, Ends, ends, got}
 use Rattle.clock.specs.declared.stamp.Timestamp.{Timestamp}
 use Rattle.clock.specs.declared.hybrid.HybridClock.{HybridClock}
 use Rattle.clock.specs.declared.vector.CausalOrder.the-variants.{Concurrent}
@@ -14,10 +15,11 @@ use Rattle.clock.specs.Vector.{clockOf, compareCall}
 use Rattle.codec.specs.Leb128.{shortest}
 use Rattle.codec.specs.Reading.{getVarint}
 use Rattle.row.specs.Rows.{Row, HeldRow}
-use Rattle.row.specs.Reading.{BatchRow}
+use Rattle.row.specs.Wire.{signedBytes}
 use Rattle.log.specs.Store.{MaybeStamp, Store}
+use Rattle.log.specs.Areas.{Areas, areas, readStore, writeStore}
 use Rattle.merging.specs.Batch.{Limits}
-use Rattle.merging.specs.Merging.{Merged, merge}
+use Rattle.merging.specs.Delta.{DeltaReport, DeltaLeft, deltaCall}
 
 -- ---- clocks and stamps
 
@@ -41,10 +43,6 @@ stampOf wall author = record { «wall_time» = wall; «logical_counter» = 0; «
 abbrev pub rowOf : (wall : ℕ) → Author → Seq → (deps : Clock) (payload : Bytes) → Row
 rowOf wall author seq deps payload =
     record { stamp = stampOf wall author; author = author; seq = seq; deps = deps; payload = payload; signature = [] }
-
--- a rightly signed row of a batch with an outcome
-abbrev pub given : (outcome : ℕ) → Row → BatchRow
-given outcome r = record { row = r; closing = record { verdict = 1; outcome = outcome; detail = 0 } }
 
 abbrev pub held : (arrival : Time) → Row → HeldRow
 held arrival r = record { row = r; arrival = arrival; outcome = 0; detail = 0 }
@@ -73,14 +71,26 @@ r21 = rowOf 3 2 1 ((1, 1) ∷ []) []
 abbrev pub holding : (arrival : Time) → Store
 holding arrival = record { log = []; held = held arrival r21 ∷ []; floor = none; clock = []; compacted = []; marks = [] }
 
--- a merge by settings of age 50 and drift 60,000
-abbrev pub merging : Time → Store → List BatchRow → Answer Merged
-merging time s rows = merge 1 (settings 64 64 65536 50 60000 16 256) time s rows
+-- areas with room for one logged row, this store written into them
+abbrev pub lending : Store → Areas
+lending s = writeStore (areas (replicate 704 0) (replicate 45056 0) (replicate 2120 0)) s
 
--- the rows held after a merge, and how many expired
-abbrev pub heldAfter : Answer Merged → Answer (List HeldRow × ℕ)
-heldAfter (done m) = done (m .store .held, m .report .expired)
-heldAfter (refused r) = refused r
+-- the joined call, by settings of age 50 and drift 60,000
+abbrev pub calling : HybridClock → Time → Store → (batch : Bytes) → Ends DeltaReport DeltaLeft
+calling j time s batch =
+    deltaCall (lending s) j
+    (record { limits = settings 64 64 65536 50 60000 16 256; time = time; batch = batch; scratch = replicate 704 0; output = replicate 18 0 })
+
+-- a batch of no row, and one of a rightly signed row with outcome 0
+abbrev pub noRow : Bytes
+noRow = 0 ∷ []
+
+abbrev pub oneRow : Row → Bytes
+oneRow r = 1 ∷ signedBytes r ++ (1 ∷ 0 ∷ 0 ∷ [])
+
+-- the rows held after a call, and how many expired
+abbrev pub heldAfter : Ends DeltaReport DeltaLeft → Answer (List HeldRow × ℕ)
+heldAfter x = andThen (x .answer) (λ told. andThen (readStore (x .left .lent .areas)) (λ s. done (s .held, told .report .expired)))
 
 -- ---- the cases
 
@@ -96,9 +106,9 @@ pub record P : Type 0 where
   pub physical-wall : updateCall (own 10 3) (remote 9 7) 13 ≡ moved 13 0
   -- 01: "{1: 2} and {2: 1} are concurrent"
   pub concurrent : compareCall (clockOf ((1, 2) ∷ [])) (clockOf ((2, 1) ∷ [])) ≡ done Concurrent
-  -- 01: "arrival 100, age 50: kept at 150, expired at 151"
-  pub kept : heldAfter (merging 150 (holding 100) []) ≡ done (held 100 r21 ∷ [], 0)
-  pub expired : heldAfter (merging 151 (holding 100) []) ≡ done ([], 1)
+  -- 01: "arrival 100, age 50: kept at 150, expired at 151"; whatever the hybrid clock
+  pub kept : (j : HybridClock) → heldAfter (calling j 150 (holding 100) noRow) ≡ done (held 100 r21 ∷ [], 0)
+  pub expired : (j : HybridClock) → heldAfter (calling j 151 (holding 100) noRow) ≡ done ([], 1)
   -- 01: "time 1,000, drift 60,000: 61,000 passes, 61,001 is 11"
-  pub passes : toldBy (merging 1000 (emptyStore none) (given 0 (rowOf 61000 1 1 [] []) ∷ [])) ≡ accepted
-  pub ahead : toldBy (merging 1000 (emptyStore none) (given 0 (rowOf 61001 1 1 [] []) ∷ [])) ≡ told 11 1 1
+  pub passes : (j : HybridClock) → toldBy (calling j 1000 (emptyStore none) (oneRow (rowOf 61000 1 1 [] [])) .answer) ≡ accepted
+  pub ahead : (j : HybridClock) → toldBy (calling j 1000 (emptyStore none) (oneRow (rowOf 61001 1 1 [] [])) .answer) ≡ told 11 1 1

@@ -6,21 +6,25 @@ use Rattle.words.specs.Names.{Bytes}
 use Rattle.error.specs.declared.Refusal.{Refusal}
 use Rattle.error.specs.Answer.{done, refused, nothing}
 use Rattle.clock.specs.declared.stamp.Timestamp.{Timestamp}
+use Rattle.clock.specs.declared.hybrid.HybridClock.{HybridClock}
 use Rattle.row.specs.Rows.{Row}
 use Rattle.log.specs.Store.{Store}
 use Rattle.log.specs.Areas.{Areas, readStore, writeStore}
 use Rattle.log.specs.Insertion.{insert}
-use Rattle.merging.specs.Calls.{BatchCall, Lent, batchCall, setFloorCall}
+use Rattle.merging.specs.Calls.{BatchCall, setFloorCall}
+use Rattle.merging.specs.Delta.{DeltaLeft, deltaCall}
 use Rattle.merging.specs.Desk.{PrepareCall, prepareCall, readSealed, sealCall}
 
--- every lent byte after a batch call: the three areas and the output as lent, scratch zero
-pub record Unchanged (a : Areas) (c : BatchCall) (lent : Lent) : Type 0 where
-  pub areas-kept : lent .areas ≡ a
-  pub output-kept : lent .output ≡ c .output
-  pub scratch-zero : lent .scratch ≡ replicate (length (c .scratch)) 0
+-- after a joined call: the three areas and the output as lent, scratch zero, and the hybrid clock as it came
+pub record Unchanged (a : Areas) (j : HybridClock) (c : BatchCall) (left : DeltaLeft) : Type 0 where
+  pub areas-kept : left .lent .areas ≡ a
+  pub output-kept : left .lent .output ≡ c .output
+  pub scratch-zero : left .lent .scratch ≡ replicate (length (c .scratch)) 0
+  pub hybrid-kept : left .hybrid ≡ j
 
 abbrev pub RefusedLeaves : Type 0
-RefusedLeaves = (a : Areas) (c : BatchCall) (r : Refusal) → batchCall a c .answer ≡ refused r → Unchanged a c (batchCall a c .left)
+RefusedLeaves =
+    (a : Areas) (j : HybridClock) (c : BatchCall) (r : Refusal) → deltaCall a j c .answer ≡ refused r → Unchanged a j c (deltaCall a j c .left)
 
 abbrev pub FloorRefusedLeaves : Type 0
 FloorRefusedLeaves = (a : Areas) (t : Timestamp) (r : Refusal) → setFloorCall a t .answer ≡ refused r → setFloorCall a t .left ≡ a

@@ -1,6 +1,8 @@
 pub mod Batch
 pub mod Merging
 pub mod Calls
+pub mod Delta
+pub mod FoldedStamps
 pub mod Desk
 pub mod Offers
 pub mod OwnRows

@@ -1,5 +1,5 @@
--- Document 01, "Call lists and fair offers" (demand 3), with the sealings of document 02, ticket 1: call lists, what they offer, when offers are fair, causal
--- listings, and what demand 3 says. The theorem stands in proofs/Convergence.antt.
+-- Document 01, "Call lists and fair offers" (demand 3), with the sealings of document 02, ticket 1, and the joined call of ticket 2: call lists, what they offer,
+-- when offers are fair, causal listings, and what demand 3 says. The theorem stands in proofs/Convergence.antt.
 use Prim.Native.Nat.{ℕ, suc, _+_, _≤_, _<_, _^_}
 use mathlib.Core.Path.{_≡_}
 use mathlib.Core.Logic.{_↔_}
@@ -11,6 +11,7 @@ use Rattle.words.specs.Be.{AllBytes}
 use Rattle.words.specs.Lists.{countIf}
 use Rattle.error.specs.Answer.{Answer, done, refused, nothing}
 use Rattle.clock.specs.declared.stamp.Timestamp.{Timestamp}
+use Rattle.clock.specs.declared.hybrid.HybridClock.{HybridClock}
 use Rattle.clock.specs.Order.{stampLess}
 use Rattle.clock.specs.Entries.{get}
 use Rattle.row.specs.Rows.{Row, workLess, stampOk}
@@ -18,19 +19,21 @@ use Rattle.row.specs.Reading.{BatchRow}
 use Rattle.log.specs.Store.{Store}
 use Rattle.log.specs.Areas.{Areas, rowsOf, readStore}
 use Rattle.merging.specs.Batch.{readBatch}
-use Rattle.merging.specs.Calls.{BatchCall, batchCall, setFloorCall}
+use Rattle.merging.specs.Calls.{BatchCall, setFloorCall}
+use Rattle.merging.specs.Delta.{deltaCall}
 use Rattle.merging.specs.Desk.{readSealed, sealCall, Own}
 use Rattle.merging.specs.Merging.{sameContent}
 
--- 01: "A call list is any list of batch calls and floor settings on one store, refused ones included."; and sealings, each by its bytes and its signature
+-- 01: "A call list is any list of batch calls and floor settings on one store, refused ones included."; and sealings, each by its bytes and its signature. 02:
+-- "What is said about two stores covers the joined call; hybrid clocks are no part of that comparison.": each batch call has any hybrid clock
 pub data Call : Type 0 where
-  batch : BatchCall → Call
+  batch : (hybrid : HybridClock) → BatchCall → Call
   floor : Timestamp → Call
   seal : (bytes signature : Bytes) → Call
 
 -- 01: "batch, settings, time, floor and the other areas are any at all": a byte is below 256, the time and the numbers of a stamp fit their widths
 abbrev pub Given : Call → Type 0
-Given (batch c) = (c .time < 2 ^ 64) × AllBytes (c .batch)
+Given (batch hybrid c) = (c .time < 2 ^ 64) × AllBytes (c .batch)
 Given (floor t) = stampOk t ≡ true
 Given (seal bytes signature) = AllBytes bytes × AllBytes signature
 
@@ -40,7 +43,7 @@ AllGiven cs = (c : Call) → List·Memᴰ c cs → Given c
 
 -- 01: "Each call gets the store as the last one returned or left it": the very definitions that the exported calls' contracts cite
 unfoldable pub afterCall : Areas → Call → Areas
-afterCall a (batch c) = batchCall a c .left .areas
+afterCall a (batch hybrid c) = deltaCall a hybrid c .left .lent .areas
 afterCall a (floor t) = setFloorCall a t .left
 afterCall a (seal bytes signature) = sealCall a bytes signature .left
 
@@ -80,7 +83,7 @@ whenAccepted (refused r) l = []
 -- 01: "A row is offered to a store when an accepted batch of its list holds it"; 02: "A desk's own row, sealed as prepared, counts as offered to its store": every
 -- accepted sealing; `AllMayStand` asks `Own` of each
 unfoldable pub offeredBy : Areas → Call → List Row
-offeredBy a (batch c) = whenAccepted (batchCall a c .answer) (rowsRead (readBatch (c .batch)))
+offeredBy a (batch hybrid c) = whenAccepted (deltaCall a hybrid c .answer) (rowsRead (readBatch (c .batch)))
 offeredBy a (floor t) = []
 offeredBy a (seal bytes signature) = whenAccepted (sealCall a bytes signature .answer) (rowRead (readSealed bytes signature))
 
@@ -94,7 +97,7 @@ pub record Accepted : Type 0 where
   pub age : Time
 
 unfoldable pub acceptedBy : Areas → Call → List Accepted
-acceptedBy a (batch c) = whenAccepted (batchCall a c .answer) (record { time = c .time; age = c .limits .maxPendingAge } ∷ [])
+acceptedBy a (batch hybrid c) = whenAccepted (deltaCall a hybrid c .answer) (record { time = c .time; age = c .limits .maxPendingAge } ∷ [])
 acceptedBy a (floor t) = []
 acceptedBy a (seal bytes signature) = []
 
@@ -119,7 +122,7 @@ OneRow = (r s : Row) → ((r .author ≡ s .author) × (r .seq ≡ s .seq) × (s
 
 -- 02: "In a call list of demand 3 such a sealing, or a refused one, may stand beside batch calls and floor settings, and no other sealing may."
 abbrev pub MayStand : Areas → (before : List Row) → Call → Type 0
-MayStand a before (batch c) = Unit
+MayStand a before (batch hybrid c) = Unit
 MayStand a before (floor t) = Unit
 MayStand a before (seal bytes signature) =
     (r : Row) → sealCall a bytes signature .answer ≡ done nothing → readSealed bytes signature ≡ done r → Own a before r

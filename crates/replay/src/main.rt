@@ -1,6 +1,8 @@
 // Replays a recorded sample of the original's answers on the proved library, and says whether each came out as recorded.
 // docs/DIFFERENCES.md has the sample's format, under "How the sample was made".
 use batch::MergeLimits;
+use clock::hybrid::HybridClock;
+use clock::hybrid::Issued;
 use clock::stamp::Timestamp;
 use clock::vector::Outcome;
 use error::Refusal;
@@ -8,9 +10,9 @@ use libc::STDIN_FILENO;
 use libc::STDOUT_FILENO;
 use log::change::insert;
 use log::lookup::lookup;
-use merge::Applied;
+use merge::Joined;
 use merge::MergeReport;
-use merge::call::apply_remote_ops;
+use merge::delta::apply_delta;
 use merge::floor::set_floor;
 use stubs::ActorId;
 use words::raw::copy;
@@ -25,6 +27,7 @@ enum Verdict {
     Unreadable,
     Answer,
     Counts,
+    Clock,
     Scratch,
     Lines,
     Behind,
@@ -34,12 +37,13 @@ enum Verdict {
     Head,
 }
 
-// How many records of each kind came out as recorded.
+// How many records of each kind came out as recorded, and how many stamps could not be folded.
 struct Tally {
     stores: u64,
     floors: u64,
     batches: u64,
     refused: u64,
+    failed: u64,
     rows: u64,
     lookups: u64,
 }
@@ -77,13 +81,14 @@ fn replay(
     scratch: &mut [u8],
     output: &mut [u8],
 ) -> bool {
-    let mut record = [0u8; 208];
+    let mut record = [0u8; 272];
     let count = begin();
     let mut tally = Tally {
         stores: 0,
         floors: 0,
         batches: 0,
         refused: 0,
+        failed: 0,
         rows: 0,
         lookups: 0,
     };
@@ -126,7 +131,7 @@ fn begin() -> u64 {
     if !read_whole(&mut start) {
         return 0;
     }
-    if word(&start, 1) != 26 {
+    if word(&start, 1) != 34 {
         return 0;
     }
     word(&start, 0)
@@ -353,16 +358,45 @@ fn batch_call(
     scratch: &mut [u8],
     output: &mut [u8],
 ) -> Verdict {
-    fill(scratch);
-    fill(output);
-    let limits = limits_of(record);
-    let time = word(record, 3);
-    let answer = apply_remote_ops(limits, time, log, held, head, batch, scratch, output);
+    let counter = word(record, 26);
+    if counter > 4294967295 {
+        return Verdict::Unreadable;
+    }
+    let hybrid = clock_of(record, counter as u32);
+    let answer = offer(record, hybrid, log, held, head, batch, scratch, output);
     let verdict = answer_is(record, answer);
     let Verdict::Same = verdict else {
         return verdict;
     };
     written_is(lines, scratch, output)
+}
+
+// Makes the batch call with this hybrid clock.
+fn offer(
+    record: &[u8],
+    hybrid: HybridClock,
+    log: &mut [u8],
+    held: &mut [u8],
+    head: &mut [u8],
+    batch: &[u8],
+    scratch: &mut [u8],
+    output: &mut [u8],
+) -> Joined {
+    fill(scratch);
+    fill(output);
+    let limits = limits_of(record);
+    let time = word(record, 3);
+    apply_delta(
+        limits,
+        time,
+        hybrid,
+        log,
+        held,
+        head,
+        batch,
+        scratch,
+        output,
+    )
 }
 
 fn limits_of(record: &[u8]) -> MergeLimits {
@@ -377,6 +411,15 @@ fn limits_of(record: &[u8]) -> MergeLimits {
     }
 }
 
+fn clock_of(record: &[u8], counter: u32) -> HybridClock {
+    HybridClock {
+        actor: ActorId(word(record, 24)),
+        last_wall: word(record, 25),
+        last_counter: counter,
+        max_drift_ms: word(record, 27),
+    }
+}
+
 fn fill(s: &mut [u8]) {
     let mut i = 0;
     while i < s.len() {
@@ -386,10 +429,16 @@ fn fill(s: &mut [u8]) {
 }
 
 // Whether the answer is the recorded one. A refusal is recorded with counts of 0, a report with a refusal of 0.
-fn answer_is(record: &[u8], answer: Applied) -> Verdict {
+fn answer_is(record: &[u8], answer: Joined) -> Verdict {
     match answer {
-        Applied::Refused(r) => refusal_is(record, r),
-        Applied::Report(report) => report_is(record, report),
+        Joined::Refused { refusal, clock } => {
+            clock_is(record, refusal_is(record, refusal), clock)
+        }
+        Joined::Report {
+            report,
+            failed,
+            clock,
+        } => clock_is(record, report_is(record, report, failed), clock),
     }
 }
 
@@ -398,14 +447,15 @@ fn refusal_is(record: &[u8], r: Refusal) -> Verdict {
     if !words_are(record, 13, &told) {
         return Verdict::Answer;
     }
-    let none = [0u64; 7];
+    let none = [0u64; 8];
     if !words_are(record, 16, &none) {
         return Verdict::Counts;
     }
     Verdict::Same
 }
 
-fn report_is(record: &[u8], r: MergeReport) -> Verdict {
+// The counts, and how many stamps could not be folded.
+fn report_is(record: &[u8], r: MergeReport, failed: u64) -> Verdict {
     let none = [0u64; 3];
     if !words_are(record, 13, &none) {
         return Verdict::Answer;
@@ -418,11 +468,41 @@ fn report_is(record: &[u8], r: MergeReport) -> Verdict {
         r.held,
         r.expired,
         r.dropped,
+        failed,
     ];
     if !words_are(record, 16, &counts) {
         return Verdict::Counts;
     }
     Verdict::Same
+}
+
+// Where nothing differs so far: whether the clock issues the recorded stamp at the time of the call, or none.
+fn clock_is(record: &[u8], verdict: Verdict, clock: HybridClock) -> Verdict {
+    let Verdict::Same = verdict else {
+        return verdict;
+    };
+    let same = match clock.now(word(record, 3)) {
+        Issued::Stamp { stamp, clock: _ } => stamp_is(record, stamp),
+        Issued::Refused { refusal, clock: _ } => no_stamp_is(record, refusal),
+    };
+    if !same {
+        return Verdict::Clock;
+    }
+    Verdict::Same
+}
+
+fn stamp_is(record: &[u8], stamp: Timestamp) -> bool {
+    let ActorId(actor) = stamp.actor_id;
+    if actor != word(record, 24) {
+        return false;
+    }
+    let issued = [0, stamp.wall_time, stamp.logical_counter as u64];
+    words_are(record, 28, &issued)
+}
+
+fn no_stamp_is(record: &[u8], r: Refusal) -> bool {
+    let none = [error::number(r), 0, 0];
+    words_are(record, 28, &none)
 }
 
 // Whether the record's words from `from` on are these.
@@ -468,13 +548,13 @@ fn is_untouched(s: &[u8]) -> bool {
 
 // Whether the areas have the recorded check numbers.
 fn areas_are(record: &[u8], log: &[u8], held: &[u8], head: &[u8]) -> Verdict {
-    if check_number(log) != word(record, 23) {
+    if check_number(log) != word(record, 31) {
         return Verdict::Log;
     }
-    if check_number(held) != word(record, 24) {
+    if check_number(held) != word(record, 32) {
         return Verdict::Held;
     }
-    if check_number(head) != word(record, 25) {
+    if check_number(head) != word(record, 33) {
         return Verdict::Head;
     }
     Verdict::Same
@@ -504,6 +584,7 @@ fn tallied(record: &[u8], t: Tally) -> Tally {
         floors: more(t.floors, kind == 2),
         batches: more(t.batches, kind == 3),
         refused: more(t.refused, word(record, 13) != 0),
+        failed: std::num::wrapping_add_u64(t.failed, word(record, 23)),
         rows: more(t.rows, kind == 4),
         lookups: more(t.lookups, kind == 5),
     }
@@ -524,6 +605,7 @@ fn agrees(i: u64, verdict: Verdict) -> bool {
         Verdict::Unreadable => differs(i, b"cannot be read"),
         Verdict::Answer => differs(i, b"the answer differs"),
         Verdict::Counts => differs(i, b"the counts differ"),
+        Verdict::Clock => differs(i, b"the hybrid clock differs"),
         Verdict::Scratch => differs(i, b"scratch is not zero"),
         Verdict::Lines => differs(i, b"the lines of the output differ"),
         Verdict::Behind => differs(i, b"the output behind the lines has changed"),
@@ -558,7 +640,8 @@ fn finish(count: u64, t: Tally) -> bool {
     say_count(t.stores, b" stores, ");
     say_count(t.floors, b" floor settings, ");
     say_count(t.batches, b" batch calls (");
-    say_count(t.refused, b" refused), ");
+    say_count(t.refused, b" refused, ");
+    say_count(t.failed, b" folds failed), ");
     say_count(t.rows, b" rows inserted, ");
     say_count(t.lookups, b" payloads looked up: all as recorded\n");
     true

@@ -1,19 +1,22 @@
-//! A batch call on a store of the port and on the original's merger, from the same start.
+//! A batch call on a store of the port, and on the original's merger and hybrid clock, from the same start.
 
 use cuwelfra::{
     Batch, Limits, Refusal, Report, Request, Row, Slot, Store, VectorClock, LINE_BYTES,
     SCRATCH_BYTES, SLOT_BYTES,
 };
 use cuwelfra_sys as sys;
-use oracle::clock::Timestamp;
-use oracle::error::{ApplyError, SnapshotError};
+use oracle::clock::{HybridClock, ManualClock, Timestamp};
+use oracle::error::{ApplyError, MergeError, SnapshotError};
 use oracle::log::{ReplicatedLog, StampedOperation};
-use oracle::merge::{AllowAll, Merger};
+use oracle::merge::{AllowAll, MergeReport, Merger};
 use oracle::stubs::crypto::Verifier;
 use oracle::stubs::{ActorId, CrdtCompatible, State, UirNode};
 
 use crate::rows::{operation, operations, NOW};
 use crate::timing::{time, Subject};
+
+/// The author of the hybrid clocks, which have seen nothing before a call.
+const OWN: u64 = 1;
 
 /// Rows that a store was given before the call.
 #[derive(Clone, Default)]
@@ -76,10 +79,28 @@ impl Case {
 
     /// Makes the call on both sides and compares.
     fn step(&mut self, counts: Counts) -> Result<(), String> {
-        let report = wrapped(&mut self.store, self.batch.bytes()).map_err(shown)?;
+        let mut clock = clock();
+        let report = wrapped(&mut self.store, &mut clock, self.batch.bytes()).map_err(shown)?;
+        let mut other_clock = original_clock();
         let operations = self.operations.clone();
-        let original = merge(&mut self.merger, &mut self.log, operations);
-        let original = original.map_err(shown)?;
+        let original = merge(
+            &mut self.merger,
+            &mut self.log,
+            &mut other_clock,
+            operations,
+        );
+        let (original, failed) = original.map_err(shown)?;
+        if (report.failed_folds, failed) != (0, 0) || clock.last() != exported_folds(&self.stamps())
+        {
+            return Err("a fold failed, or the folds differ".into());
+        }
+        let stamp = clock.now(NOW).map_err(shown)?;
+        let other_stamp = other_clock.now().map_err(shown)?;
+        if (stamp.wall_time, stamp.logical_counter)
+            != (other_stamp.wall_time, other_stamp.logical_counter)
+        {
+            return Err(format!("the clocks issue {stamp} and {other_stamp:?}"));
+        }
         let port = Counts {
             applied: report.applied,
             duplicates: report.duplicates,
@@ -111,7 +132,8 @@ impl Case {
             };
             let batch = self.batch.bytes();
             let limits = Limits::default().settings();
-            time(|| sys::apply_remote_ops(limits, NOW, areas, batch, &mut scratch, &mut output))
+            let clock = parts();
+            time(|| sys::apply_delta(limits, NOW, clock, areas, batch, &mut scratch, &mut output))
         })
     }
 
@@ -119,18 +141,40 @@ impl Case {
     pub fn wrapped(&self) -> Subject<'_> {
         Box::new(|| {
             let mut store = self.store.clone();
-            time(|| wrapped(&mut store, self.batch.bytes()))
+            let mut clock = clock();
+            time(|| wrapped(&mut store, &mut clock, self.batch.bytes()))
         })
     }
 
-    /// The original's call, with rows that it may keep.
+    /// The original's merging and then its folds, with rows that it may keep.
     pub fn original(&self) -> Subject<'_> {
         Box::new(|| {
             let mut merger = self.merger.clone();
             let mut log = self.log.clone();
+            let mut clock = original_clock();
             let operations = self.operations.clone();
-            time(|| merge(&mut merger, &mut log, operations))
+            time(|| merge(&mut merger, &mut log, &mut clock, operations))
         })
+    }
+
+    /// The original's folds alone.
+    pub fn original_folds(&self) -> Subject<'_> {
+        let stamps = self.stamps();
+        Box::new(move || {
+            let mut clock = original_clock();
+            time(|| fold(&mut clock, &stamps))
+        })
+    }
+
+    /// The same folds by the exported call for one stamp.
+    pub fn exported_folds(&self) -> Subject<'_> {
+        let stamps = self.stamps();
+        Box::new(move || time(|| exported_folds(&stamps)))
+    }
+
+    /// The batch's stamps, in its order.
+    fn stamps(&self) -> Vec<Timestamp> {
+        self.operations.iter().map(|op| op.timestamp).collect()
     }
 
     /// Making the batch's bytes.
@@ -182,16 +226,69 @@ pub fn store_of(rows: &[Row], capacity: usize) -> Result<Store, Refusal> {
     Ok(store)
 }
 
-fn wrapped(store: &mut Store, batch: &[u8]) -> Result<Report, Refusal> {
-    store.apply_remote_ops(&Request::at(NOW), batch)
+fn clock() -> cuwelfra::HybridClock {
+    cuwelfra::HybridClock::new(cuwelfra::ActorId(OWN))
 }
 
+/// The same as the exported call takes it.
+fn parts() -> sys::HybridParts {
+    let parts = clock().to_parts();
+    sys::HybridParts {
+        actor: parts.actor.0,
+        last_wall: parts.last_wall,
+        last_counter: parts.last_counter,
+        max_drift_ms: parts.max_drift_ms,
+    }
+}
+
+/// Its source stands at the time of the calls.
+fn original_clock() -> HybridClock {
+    HybridClock::new(ActorId(OWN), Box::new(ManualClock::new(NOW)))
+}
+
+fn wrapped(
+    store: &mut Store,
+    clock: &mut cuwelfra::HybridClock,
+    batch: &[u8],
+) -> Result<Report, Refusal> {
+    store.apply_delta(clock, &Request::at(NOW), batch)
+}
+
+/// What the original's `Replica::apply_delta` does, but for its events; how many folds failed.
 fn merge(
     merger: &mut Merger,
     log: &mut ReplicatedLog,
+    clock: &mut HybridClock,
     operations: Vec<StampedOperation>,
-) -> Result<oracle::merge::MergeReport, oracle::error::MergeError> {
-    merger.apply_remote_ops(&Always, &AllowAll, NOW, &mut Nothing, log, operations)
+) -> Result<(MergeReport, usize), MergeError> {
+    let stamps: Vec<Timestamp> = operations.iter().map(|op| op.timestamp).collect();
+    let report = merger.apply_remote_ops(&Always, &AllowAll, NOW, &mut Nothing, log, operations)?;
+    Ok((report, fold(clock, &stamps)))
+}
+
+/// How many folds failed.
+fn fold(clock: &mut HybridClock, stamps: &[Timestamp]) -> usize {
+    let updates = stamps.iter().map(|stamp| clock.update(stamp));
+    updates.filter(Result::is_err).count()
+}
+
+/// Wall and counter after the stamps, one call for each.
+fn exported_folds(stamps: &[Timestamp]) -> (u64, u32) {
+    let mut clock = parts();
+    for stamp in stamps {
+        let remote = (stamp.wall_time, stamp.logical_counter, stamp.actor_id.0);
+        let updated = sys::hybrid_update(
+            clock.actor,
+            clock.last_wall,
+            clock.last_counter,
+            clock.max_drift_ms,
+            remote,
+            NOW,
+        );
+        clock.last_wall = updated.last_wall;
+        clock.last_counter = updated.last_counter as u32;
+    }
+    (clock.last_wall, clock.last_counter)
 }
 
 /// Requires that both logs have the same rows in the same order.

@@ -41,6 +41,8 @@ fn run(arguments: &[String]) -> Result<(), String> {
             merging::workloads_in_small_areas()?;
             println!("### Where the port's time goes, 64 fresh rows in order\n");
             merging::parts()?;
+            println!("### What the folds cost\n");
+            merging::folds()?;
             println!("### How the batch call grows, fresh rows in order: port / original\n");
             merging::growth()?;
             println!("### Other calls\n");

@@ -1,4 +1,4 @@
-//! Batch calls: the workloads, how their time grows, and where the port's goes.
+//! Batch calls: the workloads, how their time grows, where the port's goes, and what the folds cost.
 
 use std::time::Instant;
 
@@ -147,6 +147,32 @@ pub fn parts() -> Done {
             "| {log} | {slots} | {call} | {check} | {read} | {} |",
             micros(rest)
         );
+    }
+    println!();
+    Ok(())
+}
+
+/// Rows logged and slots of a log area: 1,024 slots, then just enough for 64 rows more.
+const AREAS: [(usize, usize); 5] = [(0, 1_024), (512, 1_024), (960, 1_024), (0, 64), (512, 576)];
+
+/// The batch call with 64 fresh rows, and the folds of their stamps alone: the original's, and by the exported call for one
+/// stamp, which reads no batch and is called 64 times.
+pub fn folds() -> Done {
+    println!("| batch call | rows logged | slots | port | original, merging and then folding | original's 64 folds alone | 64 calls of `cuwelfra_hybrid_update` |");
+    println!("|---|---|---|---|---|---|---|");
+    for (name, offer) in &OFFERS[..2] {
+        for (log, slots) in AREAS {
+            let (before, rows, counts) = offer(log).ok_or("a workload of every log")?;
+            let case = Case::new(&before, slots, rows, counts)?;
+            let subjects = [
+                case.exported(),
+                case.original(),
+                case.original_folds(),
+                case.exported_folds(),
+            ];
+            let [port, original, folds, exported] = rounds(ROUNDS, subjects);
+            println!("| {name} | {log} | {slots} | {port} | {original} | {folds} | {exported} |");
+        }
     }
     println!();
     Ok(())

@@ -20,7 +20,7 @@ use crate::*;
 extern "C" {
     // The interface.
     pub fn cuwelfra_abi() -> u64;
-    pub fn cuwelfra_abi_2() -> u64;
+    pub fn cuwelfra_abi_3() -> u64;
     // Bytes.
     pub fn cuwelfra_varint_len(v: u64) -> usize;
     pub fn cuwelfra_put_varint(out: *mut u8, out_len: usize, at: usize, v: u64) -> Written;
@@ -295,7 +295,7 @@ extern "C" {
     ) -> ClockNumber;
 
     // Merging.
-    pub fn cuwelfra_apply_remote_ops(
+    pub fn cuwelfra_apply_delta(
         max_pending: u64,
         max_pending_per_actor: u64,
         max_pending_bytes: u64,
@@ -304,6 +304,10 @@ extern "C" {
         max_deps: u64,
         max_payload: u64,
         time_ms: u64,
+        actor: u64,
+        last_wall: u64,
+        last_counter: u32,
+        clock_max_drift_ms: u64,
         log: *mut u8,
         log_len: usize,
         held: *mut u8,
@@ -316,7 +320,7 @@ extern "C" {
         scratch_len: usize,
         output: *mut u8,
         output_len: usize,
-    ) -> MergeTold;
+    ) -> DeltaTold;
     pub fn cuwelfra_set_floor(
         log: *const u8,
         log_len: usize,

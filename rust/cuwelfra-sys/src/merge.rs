@@ -2,11 +2,11 @@
 
 use crate::Told;
 
-/// What a batch call answers; all counts are 0 when it is refused.
+/// What a batch call answers; all counts are 0 and the clock is as handed in when it is refused.
 #[repr(C)]
 #[derive(Clone, Copy, Debug, Default, PartialEq, Eq)]
 #[must_use]
-pub struct MergeTold {
+pub struct DeltaTold {
     /// Whether the call was refused.
     pub told: Told,
     /// Rows logged whose outcome was 0.
@@ -23,6 +23,12 @@ pub struct MergeTold {
     pub expired: u64,
     /// Ready rows that were not their author's next.
     pub dropped: u64,
+    /// Stamps of the batch that the hybrid clock refused, by 20 or 19.
+    pub failed_folds: u64,
+    /// The hybrid clock's wall afterwards.
+    pub last_wall: u64,
+    /// The hybrid clock's counter afterwards. Fits 32 bits.
+    pub last_counter: u64,
 }
 
 /// A store that is changed.
@@ -55,16 +61,31 @@ pub struct Settings {
     pub max_payload: u64,
 }
 
-/// Applies a batch. Writes a line of 18 bytes for each logged row into `output`; `scratch` is zero after every call.
-pub fn apply_remote_ops(
+/// The hybrid clock that a batch's stamps are folded into, under the names of its arguments.
+#[derive(Clone, Copy, Debug, Default, PartialEq, Eq)]
+pub struct HybridParts {
+    /// Its actor.
+    pub actor: u64,
+    /// Its wall.
+    pub last_wall: u64,
+    /// Its counter.
+    pub last_counter: u32,
+    /// How far ahead of the time a stamp may be that is folded in, in ms.
+    pub max_drift_ms: u64,
+}
+
+/// Applies a batch, and folds its stamps into the hybrid clock. Writes a line of 18 bytes for each logged row into
+/// `output`; `scratch` is zero after every call.
+pub fn apply_delta(
     settings: Settings,
     time_ms: u64,
+    hybrid: HybridParts,
     s: AreasMut,
     batch: &[u8],
     scratch: &mut [u8],
     output: &mut [u8],
-) -> MergeTold {
-    lend!(cuwelfra_apply_remote_ops(
+) -> DeltaTold {
+    lend!(cuwelfra_apply_delta(
         settings.max_pending,
         settings.max_pending_per_actor,
         settings.max_pending_bytes,
@@ -73,6 +94,10 @@ pub fn apply_remote_ops(
         settings.max_deps,
         settings.max_payload,
         time_ms,
+        hybrid.actor,
+        hybrid.last_wall,
+        hybrid.last_counter,
+        hybrid.max_drift_ms,
         write s.log,
         write s.held,
         write s.head,

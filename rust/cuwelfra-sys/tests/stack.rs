@@ -2,8 +2,8 @@
 
 use std::thread;
 
-use cuwelfra_sys::{apply_remote_ops, from_parts, prepare, read_op, seal};
-use cuwelfra_sys::{AreasMut, Preparation, Settings};
+use cuwelfra_sys::{apply_delta, from_parts, prepare, read_op, seal};
+use cuwelfra_sys::{AreasMut, HybridParts, Preparation, Settings};
 
 const STACK_BYTES: usize = 32 * 1024;
 const ROWS: usize = 1_024;
@@ -57,15 +57,29 @@ fn a_batch_of_64_rows() {
         max_deps: 16,
         max_payload: 256,
     };
+    let hybrid = HybridParts {
+        actor: 2,
+        ..HybridParts::default()
+    };
     let report = on_a_small_stack(|| {
         let areas = AreasMut {
             log: &mut store.log,
             held: &mut store.held,
             head: &mut store.head,
         };
-        apply_remote_ops(settings, 1_000, areas, &batch, &mut scratch, &mut output)
+        apply_delta(
+            settings,
+            1_000,
+            hybrid,
+            areas,
+            &batch,
+            &mut scratch,
+            &mut output,
+        )
     });
     assert_eq!((report.told.number, report.applied), (0, 64));
+    let folded = (report.failed_folds, report.last_wall, report.last_counter);
+    assert_eq!(folded, (0, 1_000, 63));
 }
 
 #[test]

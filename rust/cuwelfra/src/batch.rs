@@ -88,7 +88,7 @@ impl Batch {
         self.len() == 0
     }
 
-    /// Its bytes, for [`Store::apply_remote_ops`](crate::Store::apply_remote_ops).
+    /// Its bytes, for [`Store::apply_delta`](crate::Store::apply_delta).
     pub fn bytes(&self) -> &[u8] {
         &self.0
     }
@@ -148,7 +148,7 @@ impl TryFrom<&[u8]> for Batch {
 #[cfg(test)]
 mod tests {
     use super::*;
-    use crate::{ActorId, ApplyError, Request, Store, Timestamp};
+    use crate::{ActorId, ApplyError, HybridClock, Request, Store, Timestamp};
 
     fn rows() -> Vec<BatchRow> {
         let outcomes = [
@@ -216,7 +216,8 @@ mod tests {
     /// Reading refuses what the batch call refuses with 3 or 4, and nothing else.
     fn agrees_with_the_call(bytes: &[u8]) -> Result<(), Refusal> {
         let mut store = Store::with_capacity(64)?;
-        let called = store.apply_remote_ops(&Request::at(u64::MAX), bytes);
+        let mut clock = HybridClock::new(ActorId(9));
+        let called = store.apply_delta(&mut clock, &Request::at(u64::MAX), bytes);
         let unreadable = called
             .err()
             .filter(|refusal| (3..=4).contains(&refusal.number()));

@@ -201,6 +201,22 @@ impl HybridClock {
         self.0
     }
 
+    /// The same as the batch call takes it.
+    pub(crate) fn lent(&self) -> sys::HybridParts {
+        let HybridParts {
+            actor,
+            last_wall,
+            last_counter,
+            max_drift_ms,
+        } = self.0;
+        sys::HybridParts {
+            actor: actor.0,
+            last_wall,
+            last_counter,
+            max_drift_ms,
+        }
+    }
+
     /// Sets the accepted lead of remote stamps over the physical time.
     pub fn set_max_drift(&mut self, max_drift_ms: u64) {
         let HybridParts {
@@ -251,7 +267,8 @@ impl HybridClock {
         ))
     }
 
-    /// Folds a remote stamp in at the physical time; 20, then 19.
+    /// Folds a remote stamp in at the physical time; 20, then 19. [`Store::apply_delta`](crate::Store::apply_delta) folds
+    /// in those of a batch.
     pub fn update(&mut self, remote: &Timestamp, physical: u64) -> Result<(), Refusal> {
         let parts = self.0;
         self.updated(sys::hybrid_update(

@@ -108,13 +108,13 @@ impl Store {
     /// let mut store = Store::with_capacity(16)?;
     /// let mut batch = Batch::new();
     /// batch.push(&Row::new(Timestamp::new(20, 0, ActorId(2)), 1, "Rad").needs(ActorId(1), 1), true, Ok(()))?;
-    /// store.apply_remote_ops(&Request::at(1_000), &batch)?;
-    ///
     /// let mut clock = HybridClock::new(ActorId(1));
+    /// store.apply_delta(&mut clock, &Request::at(1_000), &batch)?;
+    ///
     /// let prepared = store.prepare(&mut clock, 1_000, 0, "Kette")?;
     /// store.seal(&prepared.bytes, [7])?;
     /// assert_eq!((store.logged_len(), store.held_len()), (Ok(1), Ok(1)));
-    /// let report = store.apply_remote_ops(&Request::at(1_000), Batch::new())?;
+    /// let report = store.apply_delta(&mut clock, &Request::at(1_000), Batch::new())?;
     /// assert_eq!((report.applied, report.held), (1, 0));
     ///
     /// // Sealed once more, it is refused and nothing changes: it is logged already.
@@ -380,7 +380,8 @@ mod tests {
         assert_eq!(store.fates()?, fates);
         assert_eq!(sealed(&mut store, 5, 7), Err(Refusal::LogFull));
         assert_eq!(store.fates()?, fates);
-        let report = store.apply_remote_ops(&Request::at(100), Batch::new())?;
+        let mut clock = HybridClock::new(OWN);
+        let report = store.apply_delta(&mut clock, &Request::at(100), Batch::new())?;
         assert_eq!((report.applied, store.fates()?), (0, fates.to_vec()));
         Ok(())
     }
@@ -396,7 +397,7 @@ mod tests {
         if let Some(row) = held {
             batch.push(&row, true, Ok(()))?;
         }
-        store.apply_remote_ops(&request, &batch)?;
+        store.apply_delta(&mut HybridClock::new(OWN), &request, &batch)?;
         Ok((store, request))
     }
 
@@ -439,7 +440,7 @@ mod tests {
             let prepared = store.prepare(&mut clock, request.time_ms, issued, payload)?;
             store.seal(&prepared.bytes, [])?;
         }
-        let report = store.apply_remote_ops(&request, Batch::new())?;
+        let report = store.apply_delta(&mut clock, &request, Batch::new())?;
         assert_eq!((report.applied, report.dropped, report.held), (0, 1, 0));
         let found = store.lookup(OWN, 2)?.map(|found| found.payload);
         assert_eq!(found, Some(&b"second"[..]));

@@ -62,7 +62,7 @@ impl Fates {
 #[cfg(test)]
 mod tests {
     use super::*;
-    use crate::{ActorId, ApplyError, Batch, Outcome, Refusal, Report};
+    use crate::{ActorId, ApplyError, Batch, HybridClock, Outcome, Refusal, Report};
     use crate::{Request, Row, Slot, Store, Timestamp, VectorClock};
 
     /// Numbers as if by chance, the same in every run.
@@ -92,12 +92,17 @@ mod tests {
         }
     }
 
+    /// A clock says nothing about fates.
+    fn clock() -> HybridClock {
+        HybridClock::new(ActorId(9))
+    }
+
     fn apply(store: &mut Store, rows: &[Row]) -> Result<Report, Refusal> {
         let mut batch = Batch::new();
         for row in rows {
             batch.push(row, true, outcome(row))?;
         }
-        store.apply_remote_ops(&Request::at(100), &batch)
+        store.apply_delta(&mut clock(), &Request::at(100), &batch)
     }
 
     /// What the reports said of each row, found by its author and sequence.
@@ -219,7 +224,7 @@ mod tests {
             batch.push(&Row::new(stamp, seq, "Kette"), true, outcome)?;
         }
         let mut store = Store::with_capacity(8)?;
-        store.apply_remote_ops(&Request::at(100), &batch)?;
+        store.apply_delta(&mut clock(), &Request::at(100), &batch)?;
         let fates = [2, 4, 3, 1].map(|seq| Some(Fate::Rejected(ApplyError::Invalid(seq))));
         Ok((store, fates))
     }

@@ -7,7 +7,8 @@
 //! - [`Store::prepare`] and [`Store::seal`] add rows of the desk's own, with the server's signature between them.
 //! - [`Store::save`], [`Store::load`] and [`Update`] keep a store in a file.
 //! - [`Delta`] is what a peer lacks, [`Peer`] what is known about one.
-//! - [`HybridClock`] stamps an author's rows, [`VectorClock`] says how far each author's rows are known.
+//! - [`HybridClock`] stamps an author's rows, and takes in the stamps of each batch; [`VectorClock`] says how far each
+//!   author's rows are known.
 //! - [`Reader`], [`Writer`] and [`Envelope`] serve the frames between peers.
 //!
 //! Every call answers with a `Result`. A [`Refusal`] has a number and values; it changes nothing, and nothing panics. The
@@ -32,13 +33,18 @@
 //! }
 //!
 //! /// Takes rows in, at most 64 of them, but for those with a bad signature.
-//! fn take_in(store: &mut Store, mut rows: Vec<Row>, time_ms: u64) -> Result<Report, Refusal> {
+//! fn take_in(
+//!     store: &mut Store,
+//!     clock: &mut HybridClock,
+//!     mut rows: Vec<Row>,
+//!     time_ms: u64,
+//! ) -> Result<Report, Refusal> {
 //!     loop {
 //!         let mut batch = Batch::new();
 //!         for row in &rows {
 //!             batch.push(row, verify(row), judge(row))?;
 //!         }
-//!         match store.apply_remote_ops(&Request::at(time_ms), &batch) {
+//!         match store.apply_delta(clock, &Request::at(time_ms), &batch) {
 //!             // A batch is merged whole or not at all: offer the rest without this row.
 //!             Err(Refusal::BadSignature { actor, seq }) => {
 //!                 rows.retain(|row| (row.actor, row.seq) != (actor, seq));
@@ -52,19 +58,20 @@
 //! let (log, held, head) = (vec![0; 100 * SLOT_BYTES], vec![0; HELD_BYTES], vec![0; HEAD_BYTES]);
 //! let mut store = Store::from_areas(log, held, head);
 //! store.check()?;
+//! // The server writes rows of author 3. Its clock goes from call to call.
+//! let mut clock = HybridClock::new(ActorId(3));
 //!
 //! // Rows come in; the second has a bad signature.
 //! let rows = vec![
 //!     Row::new(Timestamp::new(10, 0, ActorId(1)), 1, "Kette = chain").signed([7]),
 //!     Row::new(Timestamp::new(20, 0, ActorId(2)), 1, "Rad = wheel").signed([8]),
 //! ];
-//! match take_in(&mut store, rows, 1_000) {
+//! match take_in(&mut store, &mut clock, rows, 1_000) {
 //!     Ok(report) => assert_eq!((report.applied, report.held), (1, 0)),
 //!     Err(refusal) => eprintln!("{refusal}. {} {}", refusal.meaning(), refusal.advice()),
 //! }
 //!
-//! // Rows of its own: author 3's, whose numbers start at 1.
-//! let mut clock = HybridClock::new(ActorId(3));
+//! // Rows of its own, whose numbers start at 1. They are stamped above all that came in.
 //! let mut issued = store.clock()?.get(ActorId(3))?;
 //! for _ in 1..=80 {
 //!     let prepared = store.prepare(&mut clock, 1_000, issued, "Speiche = spoke")?;
@@ -79,12 +86,12 @@
 //! // Send a peer what it lacks, at most 64 rows and 65,536 bytes at a time: a batch takes no more rows. The peer makes a
 //! // batch of each message, and has another store.
 //! let mut peer = Peer::new(ActorId(9));
-//! let mut its_store = Store::with_capacity(100)?;
+//! let (mut its_store, mut its_clock) = (Store::with_capacity(100)?, HybridClock::new(ActorId(9)));
 //! let messages = store.delta(&peer.remote_clock())?.chunks(MAX_BATCH as u64, 65_536)?;
 //! assert_eq!(messages.iter().map(Vec::len).collect::<Vec<_>>(), [64, 17]);
 //! for rows in messages {
 //!     let sent = rows.len();
-//!     assert_eq!(take_in(&mut its_store, rows, 2_000)?.applied, sent);
+//!     assert_eq!(take_in(&mut its_store, &mut its_clock, rows, 2_000)?.applied, sent);
 //! }
 //! // It acknowledges with its clock, and lacks nothing.
 //! peer.absorb_clock(&its_store.clock()?)?;

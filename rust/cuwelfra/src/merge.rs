@@ -4,7 +4,7 @@ use cuwelfra_sys as sys;
 
 use crate::outcome::{outcome_of, parts_of};
 use crate::words::{size, small, within, word};
-use crate::{ActorId, ApplyError, Refusal, Request, Store, MAX_BATCH, MAX_HELD};
+use crate::{ActorId, ApplyError, HybridClock, Refusal, Request, Store, MAX_BATCH, MAX_HELD};
 
 /// Bytes of output for each logged row.
 pub const LINE_BYTES: usize = 18;
@@ -84,7 +84,7 @@ impl Logged {
 /// Counts from one accepted batch, and the rows that it logged.
 ///
 /// The rows held before and the batch's are these together: `expired`, `duplicates`, `applied`, `stale`, `rejected`,
-/// `dropped` and `held`.
+/// `dropped` and `held`. `failed_folds` is none of them: a row whose stamp the clock refused is merged like any other.
 #[derive(Clone, Debug, Default, PartialEq, Eq)]
 #[non_exhaustive]
 pub struct Report {
@@ -102,16 +102,54 @@ pub struct Report {
     pub expired: usize,
     /// Ready rows that were not their author's next.
     pub dropped: usize,
+    /// Stamps of the batch that the clock refused, with 20 or 19; the others were folded in.
+    pub failed_folds: usize,
     /// The logged rows, in logging order.
     pub logged: Vec<Logged>,
 }
 
 impl Store {
-    /// Merges the rows of a batch, a [`Batch`](crate::Batch) or its bytes: all of them, or none; 1 to 18.
+    /// Merges the rows of a batch, a [`Batch`](crate::Batch) or its bytes: all of them, or none; 1 to 18. Then folds their
+    /// stamps into the hybrid clock.
     ///
     /// The bytes may be any: what is not a batch is refused, with 3 or 4.
-    pub fn apply_remote_ops(
+    ///
+    /// The stamp of every row is folded in at the time of the request, in the order of the batch, duplicates and held rows
+    /// too, as [`HybridClock::update`] does it. One that it refuses is counted in [`Report::failed_folds`], and the next
+    /// goes on. A refused batch leaves the clock as it leaves the store. Hand in one clock from batch to batch, and let it
+    /// stamp what is written here.
+    ///
+    /// ```
+    /// use cuwelfra::{ActorId, Batch, HybridClock, Refusal, Request, Row, Store, Timestamp};
+    ///
+    /// // Two rows of author 2, stamped ahead of the time here, which is 1,000.
+    /// let mut batch = Batch::new();
+    /// for (seq, wall_time) in [(1, 5_000), (2, 9_000)] {
+    ///     let stamp = Timestamp::new(wall_time, 3, ActorId(2));
+    ///     batch.push(&Row::new(stamp, seq, "Kette = chain"), true, Ok(()))?;
+    /// }
+    /// let mut store = Store::with_capacity(16)?;
+    /// let mut clock = HybridClock::new(ActorId(1));
+    /// let report = store.apply_delta(&mut clock, &Request::at(1_000), &batch)?;
+    /// assert_eq!((report.applied, report.failed_folds), (2, 0));
+    ///
+    /// // The next stamp is above those of the batch.
+    /// let next = clock.now(1_000)?;
+    /// assert_eq!(next, Timestamp::new(9_000, 5, ActorId(1)));
+    /// assert!(store.logged()?.iter().all(|row| row.timestamp < next));
+    ///
+    /// // A clock whose drift is below the request's refuses the second stamp, with 20: it is counted, and the row is merged.
+    /// let mut strict = HybridClock::new(ActorId(1));
+    /// strict.set_max_drift(4_000);
+    /// let mut store = Store::with_capacity(16)?;
+    /// let report = store.apply_delta(&mut strict, &Request::at(1_000), &batch)?;
+    /// assert_eq!((report.applied, report.failed_folds), (2, 1));
+    /// assert_eq!(strict.last(), (5_000, 4));
+    /// # Ok::<(), Refusal>(())
+    /// ```
+    pub fn apply_delta(
         &mut self,
+        clock: &mut HybridClock,
         request: &Request,
         batch: impl AsRef<[u8]>,
     ) -> Result<Report, Refusal> {
@@ -119,12 +157,18 @@ impl Store {
         let rows = self.working_rows(batch);
         let mut output = [0; LINE_BYTES * (MAX_HELD + MAX_BATCH)];
         let (areas, scratch) = self.lent_mut(rows);
-        let settings = request.limits.settings();
-        let time_ms = request.time_ms;
-        let told = sys::apply_remote_ops(settings, time_ms, areas, batch, scratch, &mut output);
-        Refusal::check(told.told)?;
-        let report = report(&told, &output)?;
+        let told = sys::apply_delta(
+            request.limits.settings(),
+            request.time_ms,
+            clock.lent(),
+            areas,
+            batch,
+            scratch,
+            &mut output,
+        );
+        let (report, moved) = reported(*clock, &told, &output)?;
         self.note_fates(&report.logged)?;
+        *clock = moved;
         Ok(report)
     }
 
@@ -137,12 +181,18 @@ impl Store {
     }
 }
 
-fn report(told: &sys::MergeTold, output: &[u8]) -> Result<Report, Refusal> {
+/// The answer and the clock moved on, once all of it is known to fit.
+fn reported(
+    mut clock: HybridClock,
+    told: &sys::DeltaTold,
+    output: &[u8],
+) -> Result<(Report, HybridClock), Refusal> {
+    Refusal::check(told.told)?;
     let (lines, _) = output.as_chunks();
     let rows = [told.stale, told.rejected];
     let rows = rows.into_iter().fold(told.applied, u64::saturating_add);
     let logged = lines.iter().take(within(rows, lines.len())?);
-    Ok(Report {
+    let report = Report {
         applied: small(told.applied)?,
         stale: small(told.stale)?,
         rejected: small(told.rejected)?,
@@ -150,13 +200,17 @@ fn report(told: &sys::MergeTold, output: &[u8]) -> Result<Report, Refusal> {
         held: small(told.held)?,
         expired: small(told.expired)?,
         dropped: small(told.dropped)?,
+        failed_folds: within(told.failed_folds, MAX_BATCH)?,
         logged: logged.map(Logged::from_line).collect::<Result<_, _>>()?,
-    })
+    };
+    clock.moved(told.last_wall, told.last_counter)?;
+    Ok((report, clock))
 }
 
 #[cfg(test)]
 mod tests {
     use super::*;
+    use crate::{Batch, Row, Timestamp};
 
     fn line(fate: u8, detail: u8) -> [u8; LINE_BYTES] {
         let mut line = [0; LINE_BYTES];
@@ -191,19 +245,145 @@ mod tests {
         }
     }
 
+    /// More lines than there is output for, more folds than there are rows, a counter of 33 bits.
     #[test]
-    fn more_lines_than_there_is_output_for_are_no_answer() {
-        let told = sys::MergeTold {
-            applied: 1,
-            stale: u64::MAX,
-            ..sys::MergeTold::default()
-        };
+    fn an_answer_that_does_not_fit_moves_no_clock() {
         let output = [0; 2 * LINE_BYTES];
-        assert_eq!(report(&told, &output), Err(Refusal::MisfitAnswer));
-        let two = sys::MergeTold { stale: 1, ..told };
-        assert_eq!(
-            report(&two, &output).map(|report| report.logged.len()),
-            Ok(2)
-        );
+        let before = HybridClock::resume(ActorId(4), 10, 3);
+        let fits = sys::DeltaTold {
+            applied: 1,
+            stale: 1,
+            failed_folds: 64,
+            last_wall: 20,
+            last_counter: 0xffff_ffff,
+            ..sys::DeltaTold::default()
+        };
+        let misfits = [
+            sys::DeltaTold { stale: 2, ..fits },
+            sys::DeltaTold {
+                stale: u64::MAX,
+                ..fits
+            },
+            sys::DeltaTold {
+                failed_folds: 65,
+                ..fits
+            },
+            sys::DeltaTold {
+                last_counter: 1 << 32,
+                ..fits
+            },
+        ];
+        for told in misfits {
+            assert_eq!(
+                reported(before, &told, &output),
+                Err(Refusal::MisfitAnswer),
+                "{told:?}"
+            );
+        }
+        let answer = reported(before, &fits, &output);
+        let answer =
+            answer.map(|(report, clock)| (report.logged.len(), report.failed_folds, clock));
+        let moved = HybridClock::resume(ActorId(4), 20, u32::MAX);
+        assert_eq!(answer, Ok((2, 64, moved)));
+    }
+
+    fn batch(stamps: &[(u64, u32)]) -> Result<Batch, Refusal> {
+        let mut batch = Batch::new();
+        for (seq, (wall, counter)) in (1..).zip(stamps) {
+            let stamp = Timestamp::new(*wall, *counter, ActorId(1));
+            batch.push(&Row::new(stamp, seq, "Kette"), true, Ok(()))?;
+        }
+        Ok(batch)
+    }
+
+    /// In the order of the batch, at the time of the request, whatever becomes of the rows.
+    #[test]
+    fn every_stamp_of_a_batch_is_folded_in() -> Result<(), Refusal> {
+        let start = HybridClock::new(ActorId(9));
+        let cases = [
+            (&[][..], 90, (0, 0)),
+            (&[(10, 5)], 9, (10, 6)),
+            (&[(10, 5)], 10, (10, 6)),
+            (&[(10, 5)], 11, (11, 0)),
+            (&[(10, 5), (10, 7)], 10, (10, 8)),
+            (&[(10, 7), (10, 5)], 10, (10, 9)),
+        ];
+        for (stamps, time_ms, wanted) in cases {
+            let (batch, request) = (batch(stamps)?, Request::at(time_ms));
+            let (mut store, mut clock) = (Store::with_capacity(2)?, start);
+            let report = store.apply_delta(&mut clock, &request, &batch)?;
+            assert_eq!((report.applied, report.failed_folds), (stamps.len(), 0));
+            assert_eq!(clock.last(), wanted, "{stamps:?}");
+            // Once more they are duplicates.
+            let mut clock = start;
+            let report = store.apply_delta(&mut clock, &request, &batch)?;
+            assert_eq!((report.duplicates, report.failed_folds), (stamps.len(), 0));
+            assert_eq!(clock.last(), wanted, "{stamps:?}");
+        }
+        // A row that waits.
+        let waits = Row::new(Timestamp::new(10, 5, ActorId(1)), 2, "");
+        let mut batch = Batch::new();
+        batch.push(&waits, true, Ok(()))?;
+        let (mut store, mut clock) = (Store::with_capacity(2)?, start);
+        let report = store.apply_delta(&mut clock, &Request::at(1), &batch)?;
+        assert_eq!((report.held, clock.last()), (1, (10, 6)));
+        Ok(())
+    }
+
+    /// The folds of the call are those of the clock, one by one, also where some are refused.
+    #[test]
+    fn folds_are_those_of_the_clock() -> Result<(), Refusal> {
+        let last = u32::MAX - 1;
+        let walls = [10, 11, 15, 16, 12];
+        let counters = [0, 7, last];
+        let stamps: Vec<_> = walls
+            .iter()
+            .flat_map(|wall| counters.map(|counter| (*wall, counter)))
+            .collect();
+        let batch = batch(&stamps)?;
+        let mut met = [0; 3];
+        for (drift, wall, counter) in [(6, 0, 0), (5, 0, 0), (5, 15, last), (0, 12, u32::MAX)] {
+            let mut clock = HybridClock::resume(ActorId(9), wall, counter);
+            clock.set_max_drift(drift);
+            let mut one_by_one = clock;
+            let mut failed = 0;
+            for (wall, counter) in &stamps {
+                let stamp = Timestamp::new(*wall, *counter, ActorId(1));
+                let kind = match one_by_one.update(&stamp, 10) {
+                    Ok(()) => 0,
+                    Err(Refusal::CounterOverflow) => 1,
+                    Err(_) => 2,
+                };
+                met[kind] += 1;
+                failed += usize::from(kind > 0);
+            }
+            let mut store = Store::with_capacity(stamps.len())?;
+            let report = store.apply_delta(&mut clock, &Request::at(10), &batch)?;
+            assert_eq!(
+                (report.applied, report.failed_folds),
+                (stamps.len(), failed)
+            );
+            assert_eq!(clock, one_by_one);
+        }
+        assert!(met.iter().all(|count| *count > 5), "{met:?}");
+        Ok(())
+    }
+
+    #[test]
+    fn a_refused_batch_moves_no_clock() -> Result<(), Refusal> {
+        let before = HybridClock::resume(ActorId(9), 10, 3);
+        let mut store = Store::with_capacity(1)?;
+        let mut clock = before;
+        let told = store.apply_delta(&mut clock, &Request::at(100), batch(&[(20, 0), (30, 0)])?);
+        assert_eq!(told, Err(Refusal::LogFull));
+        assert_eq!(clock, before);
+        // Where a library moved it all the same, this one stays.
+        let told = sys::DeltaTold {
+            told: Refusal::LogFull.told(),
+            last_wall: 20,
+            ..sys::DeltaTold::default()
+        };
+        assert_eq!(reported(before, &told, &[]), Err(Refusal::LogFull));
+        Ok(())
     }
 }

@@ -1,4 +1,4 @@
-//! What a batch call is told beside the batch: its settings and the time.
+//! What a batch call is told beside the batch and the hybrid clock: its settings and the time.
 
 use cuwelfra_sys as sys;
 
@@ -10,7 +10,7 @@ macro_rules! limits {
         /// Settings are made from the default ones. Later versions may have more.
         ///
         /// ```
-        /// use cuwelfra::{ActorId, Batch, Limits, Refusal, Request, Row, Store, Timestamp};
+        /// use cuwelfra::{ActorId, Batch, HybridClock, Limits, Refusal, Request, Row, Store, Timestamp};
         ///
         /// // Two rows whose cause has not come: both would wait.
         /// let mut batch = Batch::new();
@@ -18,12 +18,13 @@ macro_rules! limits {
         ///     batch.push(&Row::new(Timestamp::new(10 * seq, 0, ActorId(1)), seq, "Kette"), true, Ok(()))?;
         /// }
         /// let mut store = Store::with_capacity(16)?;
+        /// let mut clock = HybridClock::new(ActorId(2));
         /// let one = Request::at(1_000).with_limits(Limits::new().with_max_pending(1));
-        /// let told = store.apply_remote_ops(&one, &batch);
+        /// let told = store.apply_delta(&mut clock, &one, &batch);
         /// assert_eq!(told, Err(Refusal::HeldOverflow { limit: 1 }));
         ///
         /// let two = Request::at(1_000).with_limits(Limits::new().with_max_pending(2));
-        /// let report = store.apply_remote_ops(&two, &batch)?;
+        /// let report = store.apply_delta(&mut clock, &two, &batch)?;
         /// assert_eq!(report.held, 2);
         /// # Ok::<(), Refusal>(())
         /// ```
@@ -79,10 +80,10 @@ impl Default for Limits {
     }
 }
 
-/// What a batch call is told beside the batch. Later versions may be told more.
+/// What a batch call is told beside the batch and the hybrid clock. Later versions may be told more.
 ///
 /// ```
-/// use cuwelfra::{Batch, Limits, Refusal, Request, Store};
+/// use cuwelfra::{ActorId, Batch, HybridClock, Limits, Refusal, Request, Store};
 ///
 /// let strict = Limits::new().with_max_payload(100);
 /// let request = Request::at(1_000).with_limits(strict);
@@ -90,7 +91,8 @@ impl Default for Limits {
 ///
 /// // An empty batch lets rows expire that wait too long.
 /// let mut store = Store::with_capacity(16)?;
-/// let report = store.apply_remote_ops(&request, Batch::new())?;
+/// let mut clock = HybridClock::new(ActorId(1));
+/// let report = store.apply_delta(&mut clock, &request, Batch::new())?;
 /// assert_eq!(report.expired, 0);
 /// # Ok::<(), Refusal>(())
 /// ```
@@ -123,7 +125,7 @@ impl Request {
 #[cfg(test)]
 mod tests {
     use super::*;
-    use crate::{ActorId, Batch, Refusal, Row, Store, Timestamp};
+    use crate::{ActorId, Batch, HybridClock, Refusal, Row, Store, Timestamp};
 
     /// Each under its own name, and the others as they were.
     #[test]
@@ -183,7 +185,8 @@ mod tests {
         ];
         for (request, wanted) in cases {
             let mut store = Store::with_capacity(1)?;
-            let told = store.apply_remote_ops(&request, &batch);
+            let mut clock = HybridClock::new(ActorId(9));
+            let told = store.apply_delta(&mut clock, &request, &batch);
             assert_eq!(told.map(|report| report.applied), wanted, "{request:?}");
         }
         Ok(())

@@ -32,15 +32,16 @@ const WATERMARKS: usize = 1_088;
 /// compared.
 ///
 /// ```
-/// use cuwelfra::{ActorId, Batch, Refusal, Request, Row, Store, Timestamp};
+/// use cuwelfra::{ActorId, Batch, HybridClock, Refusal, Request, Row, Store, Timestamp};
 ///
 /// let mut store = Store::with_capacity(16)?;
+/// let mut clock = HybridClock::new(ActorId(3));
 ///
 /// // Author 2's first row needs author 1's first, which is not here yet: it waits.
 /// let answer = Row::new(Timestamp::new(20, 0, ActorId(2)), 1, "Kette = chain").needs(ActorId(1), 1);
 /// let mut batch = Batch::new();
 /// batch.push(&answer, true, Ok(()))?;
-/// let report = store.apply_remote_ops(&Request::at(1_000), &batch)?;
+/// let report = store.apply_delta(&mut clock, &Request::at(1_000), &batch)?;
 /// assert_eq!((report.applied, report.held), (0, 1));
 /// assert_eq!(store.held()?[0].row, answer);
 ///
@@ -48,7 +49,7 @@ const WATERMARKS: usize = 1_088;
 /// let question = Row::new(Timestamp::new(10, 0, ActorId(1)), 1, "Kette = ?");
 /// let mut batch = Batch::new();
 /// batch.push(&question, true, Ok(()))?;
-/// let report = store.apply_remote_ops(&Request::at(1_001), &batch)?;
+/// let report = store.apply_delta(&mut clock, &Request::at(1_001), &batch)?;
 /// assert_eq!((report.applied, report.held), (2, 0));
 /// assert_eq!(report.logged[1].actor, ActorId(2));
 /// assert_eq!(store.logged()?, [question, answer]);
@@ -273,19 +274,19 @@ impl Store {
 
     /// What became of each logged row, in log order; `None` where that is not known.
     ///
-    /// It is known of the rows that [`Store::apply_remote_ops`] logged, and stays with them, also in a file; a row that
+    /// It is known of the rows that [`Store::apply_delta`] logged, and stays with them, also in a file; a row that
     /// [`Store::seal`] logged is applied. It is not known of rows that came by [`Store::insert`], [`Store::rebuild`] or
     /// [`Store::from_areas`].
     ///
     /// ```
-    /// use cuwelfra::{ActorId, ApplyError, Batch, Fate, Refusal, Request, Row, Slot, Store, Timestamp};
+    /// use cuwelfra::{ActorId, ApplyError, Batch, Fate, HybridClock, Refusal, Request, Row, Slot, Store, Timestamp};
     ///
     /// let row = |wall_time, seq, text: &str| Row::new(Timestamp::new(wall_time, 0, ActorId(1)), seq, text);
     /// let mut batch = Batch::new();
     /// batch.push(&row(10, 1, "Kette = chain"), true, Ok(()))?;
     /// batch.push(&row(30, 2, "Kette = necklace"), true, Err(ApplyError::Denied))?;
     /// let mut store = Store::with_capacity(16)?;
-    /// store.apply_remote_ops(&Request::at(1_000), &batch)?;
+    /// store.apply_delta(&mut HybridClock::new(ActorId(2)), &Request::at(1_000), &batch)?;
     /// let denied = Fate::Rejected(ApplyError::Denied);
     /// assert_eq!(store.fates()?, [Some(Fate::Applied), Some(denied)]);
     ///
@@ -512,7 +513,7 @@ fn stamp(told: sys::StampTold) -> Result<Option<Timestamp>, Refusal> {
 #[cfg(test)]
 mod tests {
     use super::*;
-    use crate::{Batch, Request};
+    use crate::{Batch, HybridClock, Request};
 
     /// Rows of author 1 with these sequences.
     fn batch(seqs: impl IntoIterator<Item = u64>) -> Result<Batch, Refusal> {
@@ -524,10 +525,14 @@ mod tests {
         Ok(batch)
     }
 
+    fn clock() -> HybridClock {
+        HybridClock::new(ActorId(9))
+    }
+
     /// A store with a row logged and one that waits.
     fn store() -> Result<Store, Refusal> {
         let mut store = Store::with_capacity(4)?;
-        store.apply_remote_ops(&Request::at(100), batch([1, 3])?)?;
+        store.apply_delta(&mut clock(), &Request::at(100), batch([1, 3])?)?;
         Ok(store)
     }
 
@@ -536,7 +541,7 @@ mod tests {
         let batch = batch(2..66)?;
         let mut store = Store::with_capacity(1)?;
         for (duplicates, rows) in [(0, 64), (64, 128)] {
-            let report = store.apply_remote_ops(&Request::at(100), &batch)?;
+            let report = store.apply_delta(&mut clock(), &Request::at(100), &batch)?;
             assert_eq!((report.duplicates, report.held), (duplicates, 64));
             assert_eq!(store.scratch.len(), rows * SCRATCH_BYTES);
         }
@@ -680,7 +685,7 @@ mod tests {
                     let areas = [log, held, head].map(|len| vec![0xff; len]);
                     let [log, held, head] = areas;
                     let mut store = Store::from_areas(log, held, head);
-                    let told = store.apply_remote_ops(&Request::at(0), [0xff]);
+                    let told = store.apply_delta(&mut clock(), &Request::at(0), [0xff]);
                     assert_eq!(told, Err(Refusal::ShortArea));
                     assert_eq!(store.logged(), Err(Refusal::ShortArea));
                 }

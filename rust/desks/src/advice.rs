@@ -97,16 +97,17 @@ const ADVICE: [Advice; 20] = [
         advice: "Join or add the rows of further authors at another store.",
     },
     Advice {
-        meaning: "There is no stamp above one that the store has: its time is not past yet, and its counter is the last \
-                 that there is, 4,294,967,295.",
-        advice: "Give the command again when the machine's time is past that of the stamp.",
+        meaning: "There is no stamp above one that the store has or a file brings: its time is not past yet, and the \
+                 counters of that time are used up. The last is 4,294,967,295.",
+        advice: "Add again when the machine's time is past that of the stamp. `./run join` merges the rows as always. A \
+                 sound clock does not come near that counter: ask the author of the stamp about it.",
     },
     Advice {
         meaning: "A stamp that the store has is further ahead of the time of this command than --drift allows. A new row \
                  has to be stamped above it.",
         advice: "Compare the clocks of this machine and of the desk that the stamp is from. Add again when its time has \
                  come. With a larger --drift, and with --force where that is more than a minute, the new row is stamped as \
-                 far ahead, and other stores refuse it with 11 until then.",
+                 far ahead, and other stores refuse it with 11 until then. `./run join` goes on without the stamp.",
     },
 ];
 

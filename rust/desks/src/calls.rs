@@ -1,8 +1,9 @@
 //! Batch calls, and what they told.
 
-use cuwelfra::{ActorId, Limits, Refusal, Report, Request, Store};
+use cuwelfra::{ActorId, HybridClock, Limits, Refusal, Report, Request, Store};
 
 use crate::desk::{Desk, Offered};
+use crate::known::{self, Known, Unfolded};
 use crate::notice::{self, Before, Compared, Notice};
 use crate::refused::Refused;
 use crate::text::Offer;
@@ -20,6 +21,12 @@ impl Settings {
     fn request(&self, offer: &Offer) -> Request {
         let said = offer.time_ms.filter(|_| self.replay);
         Request::at(said.unwrap_or(self.time_ms)).with_limits(self.limits)
+    }
+
+    /// A clock for batches that are offered to a store of which this is the latest stamp. It stamps nothing, so that
+    /// any author does.
+    pub fn clock<'a>(&self, latest: Option<&'a Known>) -> (HybridClock, Option<Unfolded<'a>>) {
+        known::clock(ActorId(0), self.limits.max_drift_ms, latest, self.time_ms)
     }
 }
 
@@ -69,9 +76,10 @@ impl Told<'_> {
     }
 }
 
-/// Offers the desks' batches to a store, one desk after the other.
+/// Offers the desks' batches to a store, one desk after the other. The clock goes from batch to batch.
 pub fn offer<'a>(
     store: &mut Store,
+    clock: &mut HybridClock,
     desks: impl Iterator<Item = &'a Desk>,
     settings: &Settings,
 ) -> Result<Vec<Told<'a>>, Refusal> {
@@ -81,7 +89,7 @@ pub fn offer<'a>(
             told.push(Told {
                 batch: desk.batch(i),
                 offer: &offered.offer,
-                answer: call(store, offered, settings)?,
+                answer: call(store, clock, offered, settings)?,
             });
         }
     }
@@ -93,6 +101,7 @@ pub fn offer<'a>(
 /// One batch call. An unsound store answers no question about its rows either: that is an error.
 fn call(
     store: &mut Store,
+    clock: &mut HybridClock,
     offered: &Offered,
     settings: &Settings,
 ) -> Result<Result<Accepted, Refused>, Refusal> {
@@ -102,8 +111,8 @@ fn call(
     };
     let offer = &offered.offer;
     let request = settings.request(offer);
-    let before = Before::of(store)?;
-    Ok(match store.apply_remote_ops(&request, bytes) {
+    let before = Before::of(store, clock)?;
+    Ok(match store.apply_delta(clock, &request, bytes) {
         Ok(report) => Ok(Accepted::new(report, &request, offer, &before, store)?),
         Err(refusal) => Err(Refused::by_call(refusal, offer, &before.held)),
     })

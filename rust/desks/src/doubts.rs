@@ -2,7 +2,8 @@
 
 use cuwelfra::{Limits, Refusal, Row, Store, MAX_DEPS};
 
-use crate::own::{authors, latest, Writer};
+use crate::known::latest;
+use crate::own::{authors, Writer};
 use crate::plain::command;
 use crate::{show, time};
 

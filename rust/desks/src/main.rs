@@ -20,6 +20,7 @@ mod desk;
 mod doubts;
 mod error;
 mod frontier;
+mod known;
 mod notice;
 mod own;
 mod plain;

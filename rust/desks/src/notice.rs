@@ -1,9 +1,7 @@
 //! Rows that a person has to know of: what a report counts, by name.
 
-use cuwelfra::{
-    ActorId, ApplyError, BatchRow, Fate, HeldRow, Outcome, Refusal, Report, Request, Row, Store,
-    VectorClock,
-};
+use cuwelfra::{ActorId, ApplyError, BatchRow, Fate, HeldRow, HybridClock, Outcome};
+use cuwelfra::{Refusal, Report, Request, Row, Store, VectorClock};
 
 use crate::store::{causes, expires, logged, Logged};
 use crate::text::Offer;
@@ -24,6 +22,17 @@ pub enum News {
     Rejected(ApplyError),
     /// It is logged, and its stamp is at or below the floor.
     Stale,
+    /// It is merged, and the clock refused its stamp.
+    Unfolded {
+        /// Where it stands in its file.
+        place: String,
+        /// The answer that came with it.
+        outcome: Outcome,
+        /// 20 or 19.
+        refusal: Refusal,
+        /// The clock's time when it did.
+        wall: u64,
+    },
     /// It counts as a duplicate, and what is in the store under its number has other content or another answer.
     Differs {
         /// Where it stands in its file.
@@ -55,17 +64,19 @@ pub struct Found {
     pub outcome: Option<Outcome>,
 }
 
-/// What a store had before a batch.
+/// What a store had before a batch, and the hybrid clock.
 pub struct Before {
     pub held: Vec<HeldRow>,
     clock: VectorClock,
+    hybrid: HybridClock,
 }
 
 impl Before {
-    pub fn of(store: &Store) -> Result<Self, Refusal> {
+    pub fn of(store: &Store, hybrid: &HybridClock) -> Result<Self, Refusal> {
         Ok(Self {
             held: store.held()?,
             clock: store.clock()?,
+            hybrid: *hybrid,
         })
     }
 }
@@ -83,7 +94,41 @@ pub fn of(
     if report.expired + report.dropped > 0 {
         notices.extend(gone(request, before, report, store)?);
     }
+    if report.failed_folds > 0 {
+        notices.extend(unfolded(request, offer, &before.hybrid, report)?);
+    }
     Ok(notices)
+}
+
+/// The rows whose stamps the clock refused. A report says how many they are; which, the clock as it was before the batch.
+fn unfolded(
+    request: &Request,
+    offer: &Offer,
+    before: &HybridClock,
+    report: &Report,
+) -> Result<Vec<Notice>, Refusal> {
+    let mut clock = *before;
+    let mut unfolded = Vec::new();
+    for (i, BatchRow { row, outcome, .. }) in offer.rows.iter().enumerate() {
+        let refusal = match clock.update(&row.timestamp, request.time_ms) {
+            Ok(()) => continue,
+            Err(refusal @ (Refusal::RemoteAhead { .. } | Refusal::CounterOverflow)) => refusal,
+            Err(refusal) => return Err(refusal),
+        };
+        unfolded.push(Notice {
+            row: row.clone(),
+            news: News::Unfolded {
+                place: offer.place(i),
+                outcome: *outcome,
+                refusal,
+                wall: clock.last().0,
+            },
+        });
+    }
+    match unfolded.len() == report.failed_folds {
+        true => Ok(unfolded),
+        false => Err(Refusal::MisfitAnswer),
+    }
 }
 
 /// A row's author and sequence.
@@ -232,5 +277,38 @@ pub fn outcome(fate: Fate) -> Option<Outcome> {
         Fate::Applied => Some(Ok(())),
         Fate::Rejected(error) => Some(Err(error)),
         _ => None,
+    }
+}
+
+#[cfg(test)]
+mod tests {
+    use super::*;
+    use cuwelfra::{Batch, Timestamp};
+
+    /// A report that counts more or fewer of them than the clock refuses is none of this batch.
+    #[test]
+    fn as_many_stamps_are_refused_as_the_report_counts() -> Result<(), Refusal> {
+        let row = |seq| Row::new(Timestamp::new(30, u32::MAX - 1, ActorId(1)), seq, "x");
+        let mut batch = Batch::new();
+        for seq in 1..=3 {
+            batch.push(&row(seq), true, Ok(()))?;
+        }
+        let offer = Offer::of(Batch::read(batch.bytes())?);
+        let clock = HybridClock::new(ActorId(0));
+        let mut report = Report::default();
+        for failed in 0..=3 {
+            report.failed_folds = failed;
+            let notices = unfolded(&Request::at(20), &offer, &clock, &report);
+            let rows = notices.map(|notices| {
+                let rows = notices.into_iter().map(|notice| notice.row);
+                rows.collect::<Vec<_>>()
+            });
+            let wanted = match failed {
+                2 => Ok(vec![row(2), row(3)]),
+                _ => Err(Refusal::MisfitAnswer),
+            };
+            assert_eq!(rows, wanted);
+        }
+        Ok(())
     }
 }

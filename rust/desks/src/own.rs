@@ -1,14 +1,15 @@
 //! Rows that are written at a store: stamped by a clock that is above all that the store has, prepared and sealed.
 
-use cuwelfra::{ActorId, HybridClock, Limits, Refusal, Row, Store, Timestamp};
+use cuwelfra::{ActorId, HybridClock, Limits, Refusal, Store};
 use cuwelfra::{MAX_DEPS, MAX_PAYLOAD, MAX_SIGNATURE};
 
 use crate::advice::{advice, Advice, AHEAD_FLOOR, LARGE_PAYLOAD, MANY_AUTHORS};
+use crate::known::{self, latest, Known, Unfolded};
 use crate::plain::plain;
 use crate::refused::{above, Refused};
 use crate::table::cut;
-use crate::text::{id, Entry};
-use crate::{show, time};
+use crate::text::Entry;
+use crate::time;
 
 /// Who writes rows, and when.
 pub struct Writer {
@@ -39,32 +40,6 @@ impl From<Refusal> for Stopped {
         }
     }
 }
-
-/// A stamp that a store knows, and of what it is.
-pub struct Known {
-    pub stamp: Timestamp,
-    place: String,
-}
-
-impl Known {
-    fn of_row(kind: &str, row: &Row) -> Self {
-        Self {
-            stamp: row.timestamp,
-            place: format!("{kind} row {}", id(row.actor, row.seq)),
-        }
-    }
-
-    fn shown(&self) -> String {
-        format!("{} of {}", show::stamp(self.stamp), self.place)
-    }
-
-    fn time(&self) -> String {
-        time::shown(self.stamp.wall_time)
-    }
-}
-
-/// What the floor's stamp is of.
-const FLOOR: &str = "the floor";
 
 /// What a store had before rows were written.
 struct Before {
@@ -100,19 +75,15 @@ impl Writer {
         Ok(sealed)
     }
 
-    /// A clock that issues stamps above all that the store knows. A stamp that is not above the clock tells it nothing, and
-    /// would cost a counter: the latest of all is folded in alone.
+    /// A clock that issues stamps above all that the store knows.
     fn clock(&self, latest: Option<&Known>) -> Result<HybridClock, Stopped> {
-        let mut clock = HybridClock::new(self.author);
-        clock.set_max_drift(self.max_drift_ms);
-        if let Some(latest) = latest {
-            let folded = clock.update(&latest.stamp, self.time_ms);
-            folded.map_err(|refusal| self.not_folded(latest, refusal))?;
+        match known::clock(self.author, self.max_drift_ms, latest, self.time_ms) {
+            (clock, None) => Ok(clock),
+            (_, Some(unfolded)) => Err(self.not_folded(unfolded)),
         }
-        Ok(clock)
     }
 
-    fn not_folded(&self, latest: &Known, refusal: Refusal) -> Stopped {
+    fn not_folded(&self, Unfolded { latest, refusal }: Unfolded) -> Stopped {
         let time = format!("its time is {} UTC", latest.time());
         let fault = match refusal {
             Refusal::RemoteAhead { .. } => {
@@ -130,7 +101,7 @@ impl Writer {
                 faults: vec![fault],
             },
             advice: match refusal {
-                Refusal::RemoteAhead { .. } if latest.place == FLOOR => AHEAD_FLOOR,
+                Refusal::RemoteAhead { .. } if latest.is_floor() => AHEAD_FLOOR,
                 _ => advice(refusal),
             },
         }
@@ -155,27 +126,6 @@ impl Writer {
         )?;
         Ok(prepared.seq)
     }
-}
-
-/// The latest stamp that a store knows: the floor, a watermark, or that of a logged or a held row.
-pub fn latest(store: &Store) -> Result<Option<Known>, Refusal> {
-    let floor = store.floor()?.map(|stamp| Known {
-        stamp,
-        place: FLOOR.to_owned(),
-    });
-    let compacted = store
-        .watermarks()?
-        .into_iter()
-        .map(|(author, stamp)| Known {
-            stamp,
-            place: format!("a compacted row of author {}", author.0),
-        });
-    let (logged, held) = (store.logged()?, store.held()?);
-    let logged = logged.iter().map(|row| Known::of_row("logged", row));
-    let held = held.iter().map(|held| Known::of_row("held", &held.row));
-    let all = floor.into_iter().chain(compacted).chain(logged).chain(held);
-    // Of equal ones the last: a row that is there says more than a watermark.
-    Ok(all.max_by_key(|known| known.stamp))
 }
 
 /// How many authors a store has rows of, or had before they were compacted.

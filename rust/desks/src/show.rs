@@ -1,6 +1,6 @@
 //! Calls, rows, stamps and stores as plain text.
 
-use cuwelfra::{ActorId, Fate, Limits, Row, Timestamp};
+use cuwelfra::{ActorId, Fate, Limits, Refusal, Row, Timestamp};
 
 use crate::advice::{advice, Advice};
 use crate::calls::{Accepted, Told};
@@ -19,6 +19,7 @@ pub fn reports(told: &[Told]) -> String {
         expired(told),
         dropped(told),
         not_applied(told),
+        unfolded(told),
         differing(told),
         not_compared(told),
         refused(told),
@@ -221,6 +222,34 @@ fn not_applied(told: &[Told]) -> String {
         true => String::new(),
         false => section(title, table.to_string()),
     }
+}
+
+/// Rows whose stamps the clock refused, each as a line of a file, and what that means for a stamp that is issued here.
+fn unfolded(told: &[Told]) -> String {
+    let lines = notices(told).filter_map(|(batch, Notice { row, news })| {
+        let News::Unfolded {
+            place,
+            outcome,
+            refusal,
+            wall,
+        } = news
+        else {
+            return None;
+        };
+        let next = match refusal {
+            Refusal::CounterOverflow => format!(
+                "there may be no stamp above it up to {} UTC",
+                time::shown(*wall)
+            ),
+            _ => "a stamp that is issued here may be below it".to_owned(),
+        };
+        let id = id(row.actor, row.seq);
+        let line = one_line(&format!("{batch}, {place}: {id}, {refusal}; {next}"));
+        let row = text::answered(row, Some(*outcome));
+        Some(format!("{line}    {row}\n"))
+    });
+    let title = "Refused by the clock: these rows are merged as always, and only their stamps were not taken in.";
+    section(title, lines.collect())
 }
 
 /// Text below a title, where there is any.

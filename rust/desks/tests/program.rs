@@ -113,6 +113,16 @@ fn each_status() {
             .code(),
         Some(1)
     );
+    let told = folder.run_with(
+        "join t.store - --time 2000",
+        "3000 4294967294 1 1 - x\n3000 4294967294 1 2 - y\n",
+    );
+    assert_eq!(told.status.code(), Some(1));
+    assert!(
+        printed(&told).contains("\nRefused by the clock: "),
+        "{}",
+        printed(&told)
+    );
     let told = folder.run_with("join s.store -", "20 0 1\n");
     assert_eq!((told.status.code(), printed(&told).as_str()), (Some(2), ""));
     assert!(

@@ -1,10 +1,11 @@
-//! How often calls were accepted, refused with each number, and moved rows in each way.
+//! How often calls were accepted, refused with each number, and moved rows in each way, and what became of stamps.
 
 use std::collections::BTreeMap;
 
-use cuwelfra_sys::{MergeTold, Told};
+use cuwelfra_sys::{DeltaTold, Told};
 
-use crate::support::{note, Outcome};
+use crate::port::batches::Folds;
+use crate::support::{note, Check, Outcome};
 
 /// Refusals that a batch call has.
 const REFUSALS: usize = 18;
@@ -14,6 +15,7 @@ pub struct Census {
     accepted: u64,
     refused: [u64; REFUSALS + 1],
     moved: [u64; 7],
+    folds: [u64; 4],
     /// Rows of the desk's own, prepared and sealed or sealed as they are.
     pub own: Numbers,
 }
@@ -29,13 +31,25 @@ pub const MOVES: [&str; 7] = [
     "dropped",
 ];
 
+/// What becomes of the stamps of accepted batches, and how many batches would leave another clock in another order.
+pub const FOLDS: [&str; 4] = ["passed", "failed by 20", "failed by 19", "in another order"];
+
 impl Census {
-    pub fn note(&mut self, told: &MergeTold) {
+    pub fn note(&mut self, told: &DeltaTold, folds: &Folds) {
         if told.told.number > 0 {
             self.refused[told.told.number as usize] += 1;
             return;
         }
         self.accepted += 1;
+        let counts = [
+            folds.passed,
+            folds.ahead,
+            folds.overflowed,
+            folds.ordered.into(),
+        ];
+        for (all, count) in self.folds.iter_mut().zip(counts) {
+            *all += count;
+        }
         let counts = [
             told.applied,
             told.stale,
@@ -52,6 +66,20 @@ impl Census {
 
     fn calls(&self) -> u64 {
         self.accepted + self.refused.iter().sum::<u64>()
+    }
+
+    /// Prints what became of stamps. Requires that each of these occurred.
+    pub fn folds(&self, suite: &str, kinds: &[&str]) -> Check {
+        let [passed, ahead, overflowed, ordered] = self.folds;
+        note(&format!(
+            "{suite}: folds that passed {passed}, failed by 20 {ahead}, failed by 19 {overflowed}; \
+             batches that leave another clock where they are folded in another order {ordered}"
+        ));
+        let mut counted = FOLDS.iter().zip(self.folds);
+        match counted.find(|(kind, count)| kinds.contains(kind) && *count == 0) {
+            Some((kind, _)) => Err(format!("  {suite}: no fold {kind}")),
+            None => Ok(()),
+        }
     }
 
     /// Prints the counts. Requires that calls were accepted, and that each of these refusals and moves occurred.

@@ -6,6 +6,7 @@
 #![cfg_attr(not(oracle_present), allow(dead_code))]
 #![forbid(unsafe_code)]
 
+mod boundaries;
 mod census;
 #[cfg(oracle_present)]
 mod fuzz;
@@ -74,6 +75,7 @@ fn fuzz(_: &[String]) -> ExitCode {
 fn record(file: &str) -> ExitCode {
     match record::record(&mut rng::Rng::for_suite(rng::seed(), "record"), file) {
         Ok((records, bytes)) => {
+            print!("{}", support::notes());
             println!("{file}: {records} records, {bytes} bytes");
             ExitCode::SUCCESS
         }

@@ -1,7 +1,7 @@
 //! Records the original's answers on call lists, for a replay that needs no Rust: `differential record FILE`.
 //!
 //! Numbers are big-endian words of 64 bits. The file begins with three: the bytes "cuwelfra", how many records follow, and
-//! the words of a record's head, 26. A record is its head and two blocks of bytes. The head:
+//! the words of a record's head, 34. A record is its head and two blocks of bytes. The head:
 //!
 //! | word | new store | floor setting | batch call | local row | lookup |
 //! |---|---|---|---|---|---|
@@ -14,7 +14,10 @@
 //! | 11, 12 | 0 | 0 | lengths of scratch and output | 0 | 0 |
 //! | 13 to 15 | 0 | 0 | the refusal's number and values, or 0 | 0 | 0 |
 //! | 16 to 22 | 0 | 0 | the counts, `applied` to `dropped` | 0 | 0 |
-//! | 23 to 25 | check numbers of log, held and head area after the call | the same | the same | the same | the same |
+//! | 23 | 0 | 0 | the stamps that could not be folded | 0 | 0 |
+//! | 24 to 27 | 0 | 0 | the hybrid clock handed in: actor, wall, counter, drift | 0 | 0 |
+//! | 28 to 30 | 0 | 0 | what that clock's `now` answers afterwards, at the time of the call: 0, wall, counter; or 19 and zeros | 0 | 0 |
+//! | 31 to 33 | check numbers of log, held and head area after the call | the same | the same | the same | the same |
 //!
 //! A new store has areas of zeros; a clock area goes to 48 and 568 of the head, as clock and compacted clock. The records up
 //! to the next new store are calls on it, one after the other. Before a batch call each byte of scratch and output is 165.
@@ -29,13 +32,15 @@
 
 use std::fs;
 
-use cuwelfra_sys::MergeTold;
+use cuwelfra_sys::{DeltaTold, HybridParts, Told};
 
-use crate::census::Census;
+use crate::census::{Census, FOLDS};
 use crate::original::beside::{log_of, operation};
+use crate::original::clock_told;
+use crate::original::folding::Clock;
 use crate::original::merger::Original;
 use crate::port::area::{self, word};
-use crate::port::batches::Offer;
+use crate::port::batches::{Offer, FRESH};
 use crate::port::lending::Lent;
 use crate::port::rows::{Row, Stamp};
 use crate::port::store::{Areas, Entries};
@@ -43,7 +48,7 @@ use crate::rng::Rng;
 use crate::world::lists::{gated, Universe};
 
 /// Words of a record's head.
-const HEAD: usize = 26;
+const HEAD: usize = 34;
 /// Lists over small universes, over as many authors as a clock has, and with batches of 64 rows.
 const SMALL: usize = 1_100;
 const CROWDED: usize = 60;
@@ -62,6 +67,7 @@ pub fn record(rng: &mut Rng, file: &str) -> Result<(u64, usize), String> {
         wide(rng, &mut sample);
     }
     let moves = ["applied", "stale", "rejected", "held", "expired", "dropped"];
+    sample.census.folds("record", &FOLDS)?;
     sample.census.finish("record", 5..=18, &moves)?;
     let mut bytes = b"cuwelfra".to_vec();
     put(&mut bytes, &[sample.records, HEAD as u64]);
@@ -80,7 +86,7 @@ fn small(rng: &mut Rng, sample: &mut Sample) {
         match rng.below(16) {
             0 | 1 => store.set_floor(universe.stamp(rng)),
             2 => store.insert(&universe.rows[rng.below(universe.rows.len())]),
-            _ => store.batch(&universe.offer(rng)),
+            _ => store.offer(rng, &universe),
         }
     }
 }
@@ -90,7 +96,7 @@ fn crowded(rng: &mut Rng, sample: &mut Sample) {
     let compacted: Entries = (1..=31).map(|author| (author, 0)).collect();
     let mut store = sample.begin(8, &compacted);
     for _ in 0..3 {
-        store.batch(&universe.offer(rng));
+        store.offer(rng, &universe);
     }
 }
 
@@ -116,6 +122,17 @@ struct Store<'a> {
     sample: &'a mut Sample,
     original: Original,
     areas: Areas,
+    /// The hybrid clock as the last batch call left it.
+    clock: HybridParts,
+}
+
+/// What a batch call tells and what it was told of the clock; nothing for the other kinds.
+#[derive(Default)]
+struct Recorded {
+    told: DeltaTold,
+    clock: HybridParts,
+    /// The refusal's number, and wall and counter of the stamp that the clock issues next.
+    issued: [u64; 3],
 }
 
 impl Sample {
@@ -124,12 +141,13 @@ impl Sample {
             sample: self,
             original: Original::new(log_of(&[], compacted)),
             areas: Areas::new(slots, 0),
+            clock: FRESH,
         };
         let clock = match compacted.is_empty() {
             true => Vec::new(),
             false => area::encode(compacted.clone()).to_vec(),
         };
-        store.put(1, &[slots as u64], &MergeTold::default(), [&clock, &[]]);
+        store.put(1, &[slots as u64], &Recorded::default(), [&clock, &[]]);
         store
     }
 }
@@ -138,16 +156,38 @@ impl Store<'_> {
     fn set_floor(&mut self, floor: Stamp) {
         self.original.set_floor(floor);
         let numbers = [floor.0, u64::from(floor.1), floor.2];
-        self.put(2, &numbers, &MergeTold::default(), [&[], &[]]);
+        self.put(2, &numbers, &Recorded::default(), [&[], &[]]);
+    }
+
+    /// A batch with any clock, or with the clock that the last one left.
+    fn offer(&mut self, rng: &mut Rng, universe: &Universe) {
+        let mut offer = universe.offer(rng);
+        if rng.once_in(2) {
+            offer.clock = HybridParts {
+                max_drift_ms: offer.clock.max_drift_ms,
+                ..self.clock
+            };
+        }
+        self.batch(&offer);
     }
 
     fn batch(&mut self, offer: &Offer) {
         let lent = Lent::new(offer, self.original.held().len());
         let (answer, after) = self.original.apply(offer, self.areas.capacity());
-        self.sample.census.note(&answer.told);
+        self.sample.census.note(&answer.told, &answer.folds);
         if let Some(after) = after {
             self.original = after;
         }
+        self.clock = HybridParts {
+            last_wall: answer.told.last_wall,
+            last_counter: answer.told.last_counter as u32,
+            ..offer.clock
+        };
+        let recorded = Recorded {
+            told: answer.told,
+            clock: offer.clock,
+            issued: issued(offer, answer.told.told == Told::default()),
+        };
         let limits = &offer.limits;
         let numbers = [
             offer.time,
@@ -161,7 +201,7 @@ impl Store<'_> {
             lent.scratch as u64,
             lent.output as u64,
         ];
-        self.put(3, &numbers, &answer.told, [&lent.batch, &answer.output()]);
+        self.put(3, &numbers, &recorded, [&lent.batch, &answer.output()]);
         if let Some(row) = self.wanted(offer) {
             self.look_up(row);
         }
@@ -188,19 +228,19 @@ impl Store<'_> {
             (None, Some(held)) => held.row.payload.clone(),
             (None, None) => Vec::new(),
         };
-        self.put(5, &[author, seq], &MergeTold::default(), [&payload, &[]]);
+        self.put(5, &[author, seq], &Recorded::default(), [&payload, &[]]);
     }
 
     /// A local row, where there is room.
     fn insert(&mut self, row: &Row) {
         if self.original.log.len() < self.areas.capacity() {
             self.original.log.insert(operation(row));
-            self.put(4, &[], &MergeTold::default(), [&row.slot(), &[]]);
+            self.put(4, &[], &Recorded::default(), [&row.slot(), &[]]);
         }
     }
 
     /// One record, of what the original holds now.
-    fn put(&mut self, kind: u64, numbers: &[u64], told: &MergeTold, blocks: [&[u8]; 2]) {
+    fn put(&mut self, kind: u64, numbers: &[u64], recorded: &Recorded, blocks: [&[u8]; 2]) {
         assert!(blocks[0].len() <= 2_048 && blocks[1].len() <= 2_304);
         self.areas.write(&self.original.content());
         let mut head = [0; HEAD];
@@ -208,7 +248,8 @@ impl Store<'_> {
         head[1] = blocks[0].len() as u64;
         head[2] = blocks[1].len() as u64;
         head[3..3 + numbers.len()].copy_from_slice(numbers);
-        head[13..23].copy_from_slice(&[
+        let Recorded { told, clock, .. } = recorded;
+        head[13..28].copy_from_slice(&[
             told.told.number,
             told.told.first,
             told.told.second,
@@ -219,9 +260,15 @@ impl Store<'_> {
             told.held,
             told.expired,
             told.dropped,
+            told.failed_folds,
+            clock.actor,
+            clock.last_wall,
+            clock.last_counter.into(),
+            clock.max_drift_ms,
         ]);
+        head[28..31].copy_from_slice(&recorded.issued);
         let areas = &self.areas;
-        for (number, area) in head[23..]
+        for (number, area) in head[31..]
             .iter_mut()
             .zip([&areas.log, &areas.held, &areas.head])
         {
@@ -231,6 +278,18 @@ impl Store<'_> {
         sample.records += 1;
         put(&mut sample.bytes, &head);
         sample.bytes.extend(blocks.concat());
+    }
+}
+
+/// What the original's clock issues at the time of a call, after it took the stamps of an accepted batch in.
+fn issued(offer: &Offer, accepted: bool) -> [u64; 3] {
+    let mut clock = Clock::at(&offer.clock);
+    if accepted {
+        clock.fold(offer.time, offer.stamps().iter());
+    }
+    match clock.now(offer.time) {
+        Ok(stamp) => [0, stamp.wall_time, stamp.logical_counter.into()],
+        Err(error) => [clock_told(&error).number, 0, 0],
     }
 }
 

@@ -21,7 +21,7 @@ const CRATES: [(&str, &[&str]); 10] = [
     ("src/sync.rs", &["sync", "codec"]),
     ("src/peer.rs", &["peer"]),
     ("src/merge.rs", &["merge", "batch", "log"]),
-    ("src/engine.rs", &["engine"]),
+    ("src/engine.rs", &["engine", "merge"]),
 ];
 
 /// Counterparts of another name: a refusal for an error, a call over an area or a position for a type.
@@ -43,10 +43,16 @@ const RENAMED: [(&str, &str); 17] = [
     ("Reader::signed_op", "read_op"),
     ("StampedOperation::signing_bytes", "unsigned_op"),
     ("ReplicatedLog", "check_store"),
-    ("Merger", "apply_remote_ops"),
+    ("Merger", "apply_delta"),
     ("Envelope", "EnvelopeRead"),
     ("Envelope::encode", "encode_envelope"),
     ("Envelope::decode", "decode_envelope"),
+];
+/// Methods of the original's `Replica` that are ported, though the page lists their type, and the calls that stand for them.
+const METHODS: [(&str, &[&str]); 3] = [
+    ("local_op", &["prepare", "seal"]),
+    ("apply_delta", &["apply_delta"]),
+    ("import_ops", &["apply_delta"]),
 ];
 /// Errors whose counterpart is `Refusal`.
 const ERRORS: [&str; 4] = ["CodecError", "ClockError", "MergeError", "EngineError"];
@@ -70,6 +76,25 @@ fn nothing_is_left_out_in_silence() {
                 .iter()
                 .any(|item| names(item).contains(&name.as_str()));
             assert!(known, "{file} has no {name}, which the page lists");
+        }
+    }
+}
+
+/// The page says which methods of `Replica` are not left out, and the proved crates have their calls.
+#[test]
+fn ported_methods_have_their_calls() {
+    let page = fs::read_to_string(root().join("docs/DIFFERENCES.md")).expect("the page");
+    let mut files = PORTED.iter().zip(CRATES);
+    let engine = files.find(|((file, _), _)| *file == "src/engine.rs");
+    let ((file, text), (_, crates)) = engine.expect("the engine");
+    let row = row(&page, file);
+    let (excepted, _) = row.split_once("of `Replica`").expect("what is excepted");
+    let code: BTreeSet<String> = crates.iter().flat_map(|name| code(name)).collect();
+    for (method, calls) in METHODS {
+        assert!(text.contains(&format!(" fn {method}(")), "{file}: {method}");
+        assert!(excepted.contains(method), "the page excepts {method}");
+        for call in calls {
+            assert!(code.contains(*call), "{method}: {call} is not there");
         }
     }
 }
@@ -136,15 +161,18 @@ fn names(item: &str) -> Vec<&str> {
 
 /// What the page lists of a file among the parts that are left out: all that is written as code.
 fn listed(page: &str, file: &str) -> BTreeSet<String> {
+    let words = row(page, file).split('`').skip(1).step_by(2);
+    words.map(str::to_owned).collect()
+}
+
+/// The page's row about a file among the parts that are left out, empty where it has none.
+fn row<'a>(page: &'a str, file: &str) -> &'a str {
     let part = page
         .split("\n## ")
         .find(|part| part.starts_with("Parts of ported files"));
-    let rows = part.expect("that part of the page").lines();
-    let row = rows
-        .into_iter()
-        .find(|row| row.starts_with(&format!("| {file} |")));
-    let words = row.unwrap_or_default().split('`').skip(1).step_by(2);
-    words.map(str::to_owned).collect()
+    let mut rows = part.expect("that part of the page").lines();
+    let row = rows.find(|row| row.starts_with(&format!("| {file} |")));
+    row.unwrap_or_default()
 }
 
 /// The public items of a proved crate's program, whose layout is the same.

@@ -31,7 +31,6 @@ use Rattle.quota.specs.inside.Room.{rowsLogged}
 use Rattle.commit.specs.declared.Fates.{Fates}
 use Rattle.commit.specs.inside.HeldSlots.{SlotsRise}
 use Rattle.commit.specs.inside.Logging.{AllLogged}
-use Rattle.merge.specs.declared.Applied.the-variants as applied
 use Rattle.merge.specs.declared.deciding.Prepared.{Prepared}
 use Rattle.merge.specs.declared.deciding.Prepared.the-variants as prepared
 use Rattle.merge.specs.declared.deciding.Settled.{Settled}
@@ -185,6 +184,31 @@ pub data Decides (a : Areas) (l : Limits) (time : Time) (batch : Bytes) (scratch
       → batchAnswer a (callOf l time batch scratch output) ≡ done (m .merged) → roomFor (length (m .store .held) + length (m .rows)) scratch output ≡ true
       → Decides a l time batch scratch output t (decision.Accepted waiting logged expired duplicates dropped)
   is-refused : {r : Refusal} → batchAnswer a (callOf l time batch scratch output) ≡ refused r → Decides a l time batch scratch output t (decision.Refused r)
+
+-- ---- where the rows of an accepted batch start
+
+-- a batch that can be read
+abbrev pub Readable : Bytes → Type 0
+Readable batch = (rows : List BatchRow) × (readBatch batch ≡ done rows)
+
+-- the same, and where its rows start
+pub record RowsBegin (batch : Bytes) (starts : List Position) : Type 0 where
+  pub rows : List BatchRow
+  pub first : Position
+  pub end : Position
+  pub brings : readBatch batch ≡ done rows
+  pub from : readRows batch first (length rows) ≡ got rows end
+  pub starts-are : StartsAt batch starts first (length rows)
+  pub few : length rows ≤ mostBatch
+  pub room : length rows ≤ length starts
+
+abbrev pub StartsKnown : {A : Type 0} → Answer A → Bytes → (starts : List Position) → Type 0
+StartsKnown (done x) batch starts = RowsBegin batch starts
+StartsKnown (refused r) batch starts = Unit
+
+abbrev pub decidedOf : Decision → Answer Unit
+decidedOf (decision.Accepted waiting logged expired duplicates dropped) = done nothing
+decidedOf (decision.Refused r) = refused r
 
 -- ---- what is written
 

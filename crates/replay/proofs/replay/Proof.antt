@@ -1,14 +1,14 @@
 use native.Mathlib.Omega.{arith}
 use borrow.Author.Needs.{needs}
 use Prim.Native.Nat.{_≤_, _-_}
-use mathlib.Core.Path.{_≡_, _∙_}
+use mathlib.Core.Path.{_≡_, _∙_, sym}
 use lib.ListN.{length}
 use Rattle.replay.proofs.replay.Statement.{statement}
 use Rattle.replay.proofs.replay.Tie as tie
 
 abbrev Inv-loop : tie.InvT-loop
 Inv-loop log₀ held₀ head₀ block₀ lines₀ scratch₀ output₀ record₀ count tally₀ size₀ i₀ log held head block lines scratch output «record» tally size i =
-    (i ≤ count) × (length log ≡ length log₀) × (length held ≡ length held₀) × (length head ≡ length head₀) × (length block ≡ length block₀) × (length lines ≡ length lines₀) × (length scratch ≡ length scratch₀) × (length output ≡ length output₀) × (208 ≡ length «record»)
+    (i ≤ count) × (length log ≡ length log₀) × (length held ≡ length held₀) × (length head ≡ length head₀) × (length block ≡ length block₀) × (length lines ≡ length lines₀) × (length scratch ≡ length scratch₀) × (length output ≡ length output₀) × (272 ≡ length «record»)
 
 abbrev μ-loop : tie.MeasureT-loop
 μ-loop log₀ held₀ head₀ block₀ lines₀ scratch₀ output₀ record₀ count tally₀ size₀ i₀ log held head block lines scratch output «record» tally size i =
@@ -75,20 +75,26 @@ tallied-requires : tie.Need-tallied-requires Inv-loop μ-loop
 tallied-requires c κs = search needs
 
 loop-less : tie.Need-loop-less Inv-loop μ-loop
-loop-less c = omega (arith, c .before .before .before .before .before .before .before .before .before .before .before .before .before .before .before .before .before .before .before .before .before .before .before .before .before .before .before .before .before .before .before .before .loop-test .taken)
+loop-less c =
+    let tested = c .before .before .before .before .before .before .before .before .before .before .before .before .before .before .before .before .before .before .before .before .before .before .before .before .before .before .before .before .before .before .before .before in
+    omega (arith, tested .loop-test .taken)
 
 loop-again : tie.Need-loop-again Inv-loop μ-loop
-loop-again c = (
-  omega (arith, c .before .before .before .before .before .before .before .before .before .before .before .before .before .before .before .before .before .before .before .before .before .before .before .before .before .before .before .before .before .before .before .before .loop-test .taken),
-  c .before .before .before .before .before .before .before .before .before .before .before .before .before .before .before .before .before .log .given ∙ c .before .before .before .before .before .before .before .before .before .before .before .before .before .before .before .before .before .before .before .before .before .before .before .before .before .before .before .before .before .before .before .before .before .loop .inv .1,
-  c .before .before .before .before .before .before .before .before .before .before .before .before .before .before .before .held .given ∙ c .before .before .before .before .before .before .before .before .before .before .before .before .before .before .before .before .before .before .before .before .before .before .before .before .before .before .before .before .before .before .before .before .before .loop .inv .2,
-  c .before .before .before .before .before .before .before .before .before .before .before .before .before .head .given ∙ c .before .before .before .before .before .before .before .before .before .before .before .before .before .before .before .before .before .before .before .before .before .before .before .before .before .before .before .before .before .before .before .before .before .loop .inv .3,
-  c .before .before .before .before .before .before .before .before .before .before .before .block .given ∙ c .before .before .before .before .before .before .before .before .before .before .before .before .before .before .before .before .before .before .before .before .before .before .before .before .before .before .before .before .before .before .before .before .before .loop .inv .4,
-  c .before .before .before .before .before .before .before .before .before .lines .given ∙ c .before .before .before .before .before .before .before .before .before .before .before .before .before .before .before .before .before .before .before .before .before .before .before .before .before .before .before .before .before .before .before .before .before .loop .inv .5,
-  c .before .before .before .before .before .before .before .scratch .given ∙ c .before .before .before .before .before .before .before .before .before .before .before .before .before .before .before .before .before .before .before .before .before .before .before .before .before .before .before .before .before .before .before .before .before .loop .inv .6,
-  c .before .before .before .before .before .output .given ∙ c .before .before .before .before .before .before .before .before .before .before .before .before .before .before .before .before .before .before .before .before .before .before .before .before .before .before .before .before .before .before .before .before .before .loop .inv .7,
-  search needs,
-)
+loop-again c =
+    let after = c .before .before .before .before .before in
+    let whole = after .before .before .before .before .before .before .before .before .before .before .before .before .before .before .before .before .before .before .before .before .before .before .before .before in
+    let tested = whole .before .before .before in
+    let inv = tested .before .loop .inv in (
+      omega (arith, tested .loop-test .taken),
+      after .before .before .before .before .before .before .before .before .before .before .before .before .log .given ∙ inv .1,
+      after .before .before .before .before .before .before .before .before .before .before .held .given ∙ inv .2,
+      after .before .before .before .before .before .before .before .before .head .given ∙ inv .3,
+      after .before .before .before .before .before .before .block .given ∙ inv .4,
+      after .before .before .before .before .lines .given ∙ inv .5,
+      after .before .before .scratch .given ∙ inv .6,
+      after .output .given ∙ inv .7,
+      sym (whole .record2 .given),
+    )
 
 finish-requires : tie.Need-finish-requires Inv-loop μ-loop
 finish-requires c κs = search needs

@@ -36,7 +36,7 @@ fn a_lost_field_does_not_compile() {
     let said = String::from_utf8_lossy(&output.stderr);
     assert!(!output.status.success());
     assert!(
-        said.contains("cuwelfra_merge_told_has_10_words"),
+        said.contains("cuwelfra_delta_told_has_13_words"),
         "the compiler says: {said}"
     );
 }

@@ -6,7 +6,8 @@ use std::process::{Child, Command, Stdio};
 use std::{env, fs};
 
 use super::crc64::crc64;
-use crate::{ActorId, ApplyError, Batch, Fate, Outcome, Request, Row, Slot, Store, Timestamp};
+use crate::{ActorId, ApplyError, Batch, Fate, HybridClock};
+use crate::{Outcome, Request, Row, Slot, Store, Timestamp};
 
 /// Files that were written once. A later program reads them as they are.
 pub const VERSION_1: &[u8] = include_bytes!("../../golden/version-1.store");
@@ -123,7 +124,8 @@ fn offer(store: &mut Store, time_ms: u64, rows: &[(Row, Outcome)]) {
     for (row, outcome) in rows {
         batch.push(row, true, *outcome).expect("a row that fits");
     }
-    let report = store.apply_remote_ops(&Request::at(time_ms), &batch);
+    let mut clock = HybridClock::new(ActorId(9));
+    let report = store.apply_delta(&mut clock, &Request::at(time_ms), &batch);
     report.expect("a batch that is accepted");
 }
 

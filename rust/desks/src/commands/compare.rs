@@ -54,7 +54,9 @@ fn join<'a>(
     settings: &Settings,
 ) -> Result<Joined<'a>, Refusal> {
     let mut store = Store::with_capacity(MAX_LOGGED)?;
-    let told = calls::offer(&mut store, desks, settings)?;
+    // An empty store knows no stamp.
+    let (mut clock, _) = settings.clock(None);
+    let told = calls::offer(&mut store, &mut clock, desks, settings)?;
     let view = View::of(&store)?;
     Ok(Joined { told, store, view })
 }

@@ -1,17 +1,18 @@
 //! `join STORE FILE...`: offers the files' batches to the store.
 
-use cuwelfra::MAX_DEPS;
+use cuwelfra::{Refusal, MAX_DEPS};
 
 use crate::answer::Answer;
 use crate::calls::{self, Settings, Told};
 use crate::commands::add::closed;
 use crate::desk::Desk;
 use crate::error::Error;
+use crate::known::{latest, Unfolded};
 use crate::own::authors;
 use crate::plain::name;
 use crate::show;
 use crate::store::Change;
-use crate::table::counted;
+use crate::table::{counted, paragraph};
 use crate::waiting::Held;
 use crate::words::Words;
 
@@ -22,7 +23,10 @@ pub fn run(mut words: Words) -> Result<Answer, Error> {
     let mut change = Change::begin(file.clone())?;
     let before = change.store.logged_len()?;
     let authors_before = authors(&change.store)?;
-    let told = calls::offer(&mut change.store, desks.iter(), &settings)?;
+    let latest = latest(&change.store)?;
+    let (mut clock, unfolded) = settings.clock(latest.as_ref());
+    let without = unfolded.map_or(Ok(String::new()), without)?;
+    let told = calls::offer(&mut change.store, &mut clock, desks.iter(), &settings)?;
     let (logged, held) = (change.store.logged_len()?, change.store.held_len()?);
     let waiting = Held {
         file: &file,
@@ -42,7 +46,7 @@ pub fn run(mut words: Words) -> Result<Answer, Error> {
         false => "left as it was".to_owned(),
     };
     let text = format!(
-        "{}\n{}{}: {} logged, {} of them now; {held} held; {written}.\n{closed}{next}",
+        "{}\n{}{without}{}: {} logged, {} of them now; {held} held; {written}.\n{closed}{next}",
         show::reports(&told),
         remarks(&desks, &settings),
         name(&file),
@@ -53,6 +57,24 @@ pub fn run(mut words: Words) -> Result<Answer, Error> {
         text,
         well: told.iter().all(Told::well),
     })
+}
+
+/// Why the clock began without the store's latest stamp.
+fn without(Unfolded { latest, refusal }: Unfolded) -> Result<String, Refusal> {
+    let why = match refusal {
+        Refusal::RemoteAhead { .. } => {
+            "further ahead of the time of this command than --drift allows"
+        }
+        Refusal::CounterOverflow => {
+            "not past yet, and its counter is the last that there is, 4,294,967,295"
+        }
+        refusal => return Err(refusal),
+    };
+    let (stamp, time) = (latest.shown(), latest.time());
+    Ok(paragraph(&format!(
+        "The clock began without the store's latest stamp, {stamp}: its time, {time} UTC, is {why}. The join goes on all \
+         the same."
+    )))
 }
 
 /// Files without a row, and times that do not count.

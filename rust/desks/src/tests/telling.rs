@@ -1,9 +1,12 @@
-//! Nothing is lost in silence: each row that expires, is rejected, stale, dropped, left out or not what the store has is
-//! named with its payload, and shows in the status.
+//! Nothing is lost in silence: each row that expires, is rejected, stale, dropped, left out or not what the store has, or
+//! whose stamp the clock refuses, is named with its payload, and shows in the status.
 
 use super::*;
+use crate::calls::{self, Settings};
+use crate::desk::Desk;
+use crate::show;
 use crate::store::load;
-use cuwelfra::{ActorId, Row, Slot, Timestamp};
+use cuwelfra::{ActorId, Limits, Row, Slot, Store, Timestamp};
 
 /// An hour after the start of 1970, and a second.
 const HOUR: u64 = 3_600_000;
@@ -303,6 +306,126 @@ fn a_row_that_is_rejected_or_stale_is_named() {
         told.contains("c.txt 1  3:1  stale  old = alt  40/0/3\n"),
         "{told}"
     );
+}
+
+/// The last counter of a time is folded in once. What comes after it at that time is merged, and named.
+#[test]
+fn a_stamp_that_the_clock_refuses_is_named() {
+    let folder = Folder::new("unfolded");
+    folder.write(
+        "a.txt",
+        "3000 4294967294 1 1 - \"Kette = chain\"\n3000 4294967294 1 2 - \"Rad = wheel\" denied\n\
+         2999 0 2 2 - \"Felge = rim\"\n3001 7 1 3 - \"Nabe = hub\"",
+    );
+    golden!(
+        "join-unfolded.txt",
+        folder.refused("join s.store a.txt --time 2000")
+    );
+    // Once more they are duplicates, and the clock begins above the store's latest stamp, 3001/7, which has counters left.
+    let told = folder.well("join s.store a.txt --time 2000");
+    assert!(!told.contains("Refused by the clock"), "{told}");
+    // At its very time, and when it is past.
+    folder.write("b.txt", "3000 4294967294 1 1 - x\n3000 4294967294 1 2 - y");
+    for (time, unfolded) in [(2999, true), (3000, true), (3001, false)] {
+        let line = format!("join {time}.store b.txt --time {time}");
+        let answer = folder.run(&line).expect("an answer");
+        assert_eq!(answer.well, !unfolded, "{line}: {}", answer.text);
+        assert_eq!(
+            answer.text.contains("\nRefused by the clock: "),
+            unfolded,
+            "{}",
+            answer.text
+        );
+        assert!(
+            answer.text.contains(": 2 rows logged, 2 of them now; "),
+            "{}",
+            answer.text
+        );
+    }
+    // Each order of files has a clock of its own.
+    let told = folder.well("compare b.txt --time 2000");
+    let named = "b.txt 1, line 2: 1:2, refusal 19, counter overflow; ";
+    assert_eq!(told.matches(named).count(), 2, "{told}");
+}
+
+/// A clock that lets stamps be less far ahead than the batch call does, as that of a command never is.
+#[test]
+fn a_stamp_too_far_ahead_for_the_clock_is_named() {
+    let folder = Folder::new("strict");
+    folder.write("a.txt", "9000 0 1 1 - x\n5000 0 1 2 - y");
+    let desk = Desk::read(&folder.0.join("a.txt")).expect("a desk");
+    let settings = Settings {
+        time_ms: 1000,
+        replay: false,
+        limits: Limits::new(),
+    };
+    let mut store = Store::with_capacity(2).expect("a store");
+    let (mut clock, _) = settings.clock(None);
+    clock.set_max_drift(4000);
+    let told = calls::offer(&mut store, &mut clock, [&desk].into_iter(), &settings);
+    let told = told.expect("an answer");
+    assert!(!told[0].well());
+    let named = "\n\na.txt 1, line 1: 1:1, refusal 20, remote ahead: remote wall 9000, physical time 1000; a stamp that is \
+                 issued here may be below it\n    9000 0 1 1  -  \"x\"\n";
+    let text = show::reports(&told);
+    assert!(text.ends_with(named), "{text}");
+    assert_eq!(clock.last(), (5000, 1));
+}
+
+/// One clock goes from batch to batch, over all files, and the next command begins with the store's latest stamp.
+#[test]
+fn a_clock_goes_from_batch_to_batch() {
+    let folder = Folder::new("carried");
+    let row = "3000 4294967292 1 1 - x";
+    folder.write("a.txt", format!("{row}\n---\n{row}"));
+    folder.write("b.txt", format!("{row}\n---\n5 0 1 0 - zero\n---\n{row}"));
+    let told = folder.refused("join s.store a.txt b.txt --time 2000");
+    let named = "\nb.txt 3, line 5: 1:1, refusal 19, counter overflow; there may be no stamp above it up to 1970-01-01 \
+                 00:00:03.000 UTC\n    3000 4294967292 1 1  -  \"x\"\n";
+    assert!(told.contains(named), "{told}");
+    assert_eq!(told.matches("refusal 19").count(), 1, "{told}");
+    folder.well("join s.store a.txt --time 2000");
+    folder.refused("join s.store a.txt a.txt --time 2000");
+}
+
+/// 20 and 19, of a row and of the floor. The join goes on, and all is well.
+#[test]
+fn a_latest_stamp_that_the_clock_refuses_is_said() {
+    let folder = Folder::new("without");
+    folder.write("ahead.txt", "70000 0 2 1 - x");
+    folder.write("b.txt", "10 0 9 1 - y");
+    folder.well("join s.store ahead.txt --time 2000 --drift 1d");
+    let told = folder.well("join s.store b.txt --time 2000");
+    let said = "\nThe clock began without the store's latest stamp, 70000/0/2 of logged row 2:1: its time, 1970-01-01 \
+                00:01:10.000 UTC, is\nfurther ahead of the time of this command than --drift allows. The join goes \
+                on all the same.\n\
+                s.store: 2 rows logged, 1 of them now; 0 held; written.\n";
+    assert!(told.contains(said), "{told}");
+    for line in [
+        "join s.store b.txt --time 9999",
+        "join s.store b.txt --time 2000 --drift 67s",
+    ] {
+        let told = folder.well(line);
+        assert!(
+            told.contains("\nThe clock began without "),
+            "{line}: {told}"
+        );
+    }
+    for line in [
+        "join s.store b.txt --time 10000",
+        "join s.store b.txt --time 2000 --drift 68s",
+    ] {
+        let told = folder.well(line);
+        assert!(!told.contains("The clock began without "), "{line}: {told}");
+    }
+    folder.well("floor s.store 80000/4294967295/2");
+    let told = folder.well("join s.store b.txt --time 80000");
+    let said = "\nThe clock began without the store's latest stamp, 80000/4294967295/2 of the floor: its time, \
+                1970-01-01 00:01:20.000\nUTC, is not past yet, and its counter is the last that there is, \
+                4,294,967,295. The join goes on all the same.\n";
+    assert!(told.contains(said), "{told}");
+    let told = folder.well("join s.store b.txt --time 80001");
+    assert!(!told.contains("The clock began without "), "{told}");
 }
 
 /// All rows of a refused batch, those that the refusal names, and the held one that they conflict with.

@@ -1,7 +1,9 @@
 //! Batches and rows as bytes, most of which do not read.
 
 use crate::census::Census;
-use crate::fuzz::offers::{plainer_limits, shown_limits, shown_offer, smaller_offers};
+use crate::fuzz::offers::{
+    plainer_clocks, plainer_limits, shown_clock, shown_limits, shown_offer, smaller_offers,
+};
 use crate::fuzz::shrink::{hex, lower, smaller_bytes, without, Input};
 use crate::model::{batch_call, modelled};
 use crate::port::batches::{batch, Offer};
@@ -98,12 +100,14 @@ impl Input for BatchBytes {
         let limits =
             plainer_limits(&lent.limits).map(|limits| self.with(|lent| lent.limits = limits));
         let times = lower(lent.time).map(|time| self.with(|lent| lent.time = time));
+        let clocks = plainer_clocks(&lent.clock).map(|clock| self.with(|lent| lent.clock = clock));
         Box::new(
             before
                 .chain(calls)
                 .chain(batches)
                 .chain(limits)
-                .chain(times),
+                .chain(times)
+                .chain(clocks),
         )
     }
 
@@ -113,9 +117,10 @@ impl Input for BatchBytes {
             text += &format!("  {}. {}", at + 1, shown_offer(offer));
         }
         text + &format!(
-            "  then at time {}, {}, with {} bytes of scratch and {} of output, the bytes\n     {}\n",
+            "  then at time {}, {}, {}, with {} bytes of scratch and {} of output, the bytes\n     {}\n",
             self.lent.time,
             shown_limits(&self.lent.limits),
+            shown_clock(&self.lent.clock),
             self.lent.scratch,
             self.lent.output,
             hex(&self.lent.batch)

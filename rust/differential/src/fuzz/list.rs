@@ -1,4 +1,4 @@
-//! Lists of calls on one store of the port and one merger of the original.
+//! Lists of calls on one store of the port and one merger and hybrid clock of the original.
 
 use std::collections::BTreeSet;
 

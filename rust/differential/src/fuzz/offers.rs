@@ -1,9 +1,10 @@
 //! Batch calls and rows: smaller ones, and how they are shown.
 
 use cuwelfra::Limits;
+use cuwelfra_sys::HybridParts;
 
 use crate::fuzz::shrink::{hex, lower, smaller_bytes, without};
-use crate::port::batches::{batch, BatchRow, Offer};
+use crate::port::batches::{batch, BatchRow, Offer, FRESH};
 use crate::port::rows::{Row, Stamp};
 
 /// The settings, each of which can be put back.
@@ -28,7 +29,27 @@ pub fn plainer_limits(limits: &Limits) -> impl Iterator<Item = Limits> {
     plainer.filter(move |plainer| *plainer != limits)
 }
 
-/// Fewer rows; then settings by default, an earlier time, rows that verify with their own outcome.
+/// A fresh clock; then one with the default drift, no actor, an earlier wall or a lower counter.
+pub fn plainer_clocks(clock: &HybridParts) -> impl Iterator<Item = HybridParts> {
+    let clock = *clock;
+    let plain = [
+        FRESH,
+        HybridParts {
+            max_drift_ms: FRESH.max_drift_ms,
+            ..clock
+        },
+        HybridParts { actor: 0, ..clock },
+    ];
+    let walls = lower(clock.last_wall).map(move |last_wall| HybridParts { last_wall, ..clock });
+    let counters = lower(clock.last_counter.into()).map(move |counter| HybridParts {
+        last_counter: counter as u32,
+        ..clock
+    });
+    let plainer = plain.into_iter().chain(walls).chain(counters);
+    plainer.filter(move |plainer| *plainer != clock)
+}
+
+/// Fewer rows; then settings by default, an earlier time, a plainer clock, rows that verify with their own outcome.
 pub fn smaller_offers(offer: &Offer) -> impl Iterator<Item = Offer> + '_ {
     let with = |rows: Vec<BatchRow>| Offer {
         rows,
@@ -43,6 +64,10 @@ pub fn smaller_offers(offer: &Offer) -> impl Iterator<Item = Offer> + '_ {
         time,
         ..offer.clone()
     });
+    let clocks = plainer_clocks(&offer.clock).map(|clock| Offer {
+        clock,
+        ..offer.clone()
+    });
     let plain = (0..offer.rows.len()).filter_map(move |at| {
         let mut rows = offer.rows.clone();
         let row = BatchRow::new(rows[at].row.clone());
@@ -50,7 +75,8 @@ pub fn smaller_offers(offer: &Offer) -> impl Iterator<Item = Offer> + '_ {
         rows[at] = row;
         changed.then(|| with(rows))
     });
-    fewer.chain(limits).chain(earlier).chain(plain)
+    let plainer = limits.chain(earlier).chain(clocks);
+    fewer.chain(plainer).chain(plain)
 }
 
 /// The same author with less of everything else.
@@ -111,12 +137,20 @@ pub fn shown_limits(limits: &Limits) -> String {
     format!("{limits:?}")
 }
 
+pub fn shown_clock(clock: &HybridParts) -> String {
+    format!(
+        "clock of {} at {}/{} with drift {}",
+        clock.actor, clock.last_wall, clock.last_counter, clock.max_drift_ms
+    )
+}
+
 pub fn shown_offer(offer: &Offer) -> String {
     let mut text = format!(
-        "batch of {} at time {}, {}\n",
+        "batch of {} at time {}, {}, {}\n",
         offer.rows.len(),
         offer.time,
-        shown_limits(&offer.limits)
+        shown_limits(&offer.limits),
+        shown_clock(&offer.clock)
     );
     for lent in &offer.rows {
         text += &format!(

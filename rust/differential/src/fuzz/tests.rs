@@ -5,6 +5,7 @@ use crate::fuzz::bytes::RowBytes;
 use crate::fuzz::list::{Call, List};
 use crate::fuzz::search;
 use crate::fuzz::shrink::{lower, parts, Input};
+use crate::port::batches::FRESH;
 use crate::port::rows::Row;
 use crate::rng::Rng;
 use crate::support::Check;
@@ -57,6 +58,7 @@ fn one_row_after_a_floor() {
     assert_eq!(lent.row, smallest, "{}", list.shown());
     assert_eq!((offer.time, list.capacity), (0, 1));
     assert_eq!(offer.limits, Default::default());
+    assert_eq!(offer.clock, FRESH);
 }
 
 /// The same row in two batch calls: both stay equal while they grow smaller.

@@ -1,14 +1,15 @@
-//! A store of the port and the original's merger with its log, driven by the same calls.
+//! A store of the port and the original's merger with its log and hybrid clock, driven by the same calls.
 
-use cuwelfra_sys::{self as sys, MergeTold, Preparation, Told};
+use cuwelfra_sys::{self as sys, HybridParts, Preparation, Told};
 use oracle::log::ReplicatedLog;
 
 use crate::model::batch_call;
+use crate::model::folding::folded;
 use crate::model::own::{prepare_call, row_of, seal_call};
 use crate::original::beside::{authors_fit, operation, timestamp, told_number};
 use crate::original::merger::Original;
 use crate::port::area;
-use crate::port::batches::Offer;
+use crate::port::batches::{Answer, Offer, FRESH};
 use crate::port::lending::{same_call, Lent};
 use crate::port::own::{same_prepare, same_seal, Preparing, Sealing};
 use crate::port::rows::{Row, Stamp};
@@ -23,6 +24,8 @@ pub struct Joined {
     pub areas: Areas,
     /// What they must hold.
     wanted: Areas,
+    /// The hybrid clock as the last batch call left it.
+    pub clock: HybridParts,
 }
 
 impl Joined {
@@ -35,6 +38,7 @@ impl Joined {
             original,
             areas: wanted.clone(),
             wanted,
+            clock: FRESH,
         }
     }
 
@@ -43,8 +47,8 @@ impl Joined {
         Lent::new(offer, self.original.held().len())
     }
 
-    /// A batch call; one in sixteen also by the model, one in six through the wrapper.
-    pub fn batch(&mut self, rng: &mut Rng, offer: &Offer) -> Result<MergeTold, String> {
+    /// A batch call; its folds also by the model, one in sixteen whole by the model, one in six through the wrapper.
+    pub fn batch(&mut self, rng: &mut Rng, offer: &Offer) -> Result<Answer, String> {
         let (answer, after) = self.original.apply(offer, self.areas.capacity());
         let mut lent = self.lent(offer);
         lent.scratch += rng.pick(&[0, 0, 1, 70]);
@@ -59,6 +63,13 @@ impl Joined {
             agree(&told, &answer, || format!("the model, {}", inputs()))?;
             same_areas(&areas, &self.wanted, || format!("the model, {}", inputs()))?;
         }
+        if after.is_some() {
+            let (last, folds) = folded(&offer.clock, offer.time, &offer.stamps());
+            let told = Answer::accepted(answer.told, answer.lines.clone(), last, folds);
+            agree(&told, &answer, || {
+                format!("the model's folds, {}", inputs())
+            })?;
+        }
         if rng.once_in(6) {
             wrapped::same_call(&mut self.areas, offer, &answer, inputs)?;
             same_areas(&self.areas, &self.wanted, inputs)?;
@@ -68,7 +79,12 @@ impl Joined {
         if let Some(after) = after {
             self.original = after;
         }
-        Ok(answer.told)
+        self.clock = HybridParts {
+            last_wall: answer.told.last_wall,
+            last_counter: answer.told.last_counter as u32,
+            ..offer.clock
+        };
+        Ok(answer)
     }
 
     /// Raises the floor.

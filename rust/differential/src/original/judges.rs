@@ -3,7 +3,7 @@
 use std::cell::{Cell, RefCell};
 use std::sync::OnceLock;
 
-use cuwelfra_sys::{MergeTold, Told};
+use cuwelfra_sys::{DeltaTold, Told};
 use oracle::clock::Timestamp;
 use oracle::error::{ApplyError, MergeError, SnapshotError};
 use oracle::merge::{MergeReport, OpPolicy};
@@ -107,14 +107,14 @@ pub fn rejected_fate(error: &ApplyError) -> (u8, u8) {
 }
 
 /// The counts that the original reports; it has none of expired and dropped rows.
-pub fn reported(report: &MergeReport) -> MergeTold {
-    MergeTold {
+pub fn reported(report: &MergeReport) -> DeltaTold {
+    DeltaTold {
         applied: report.applied as u64,
         stale: report.stale as u64,
         rejected: report.rejected.len() as u64,
         duplicates: report.duplicates as u64,
         held: report.buffered as u64,
-        ..MergeTold::default()
+        ..DeltaTold::default()
     }
 }
 

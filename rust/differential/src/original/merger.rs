@@ -1,12 +1,13 @@
-//! The original's merger with its log, driven as a store of the port is.
+//! The original's merger with its log, driven as a store of the port is, and its hybrid clock beside them.
 
 use cuwelfra::Limits;
-use cuwelfra_sys::{MergeTold, Told};
+use cuwelfra_sys::{DeltaTold, Told};
 use oracle::log::ReplicatedLog;
 use oracle::merge::{MergeReport, Merger};
 use oracle::stubs::ActorId;
 
 use crate::original::beside::{authors_fit, content_of, operation, stamp, timestamp};
+use crate::original::folding::folded;
 use crate::original::judges::{merge_told, rejected_fate, reported, Applied, Outcomes, Verdicts};
 use crate::original::pending;
 use crate::port::batches::{Answer, Line, Offer};
@@ -21,6 +22,13 @@ pub struct Original {
     /// Once there is a floor, the same merger without one: its policy is asked about every logged row.
     unfloored: Option<Merger>,
     held: Vec<Held>,
+}
+
+/// What an accepted batch comes to, but for its folds.
+struct Merged {
+    counts: DeltaTold,
+    lines: Vec<Line>,
+    after: Original,
 }
 
 /// What a call of the original comes to.
@@ -43,16 +51,29 @@ impl Original {
 
     /// What a batch call answers, and the merger after it, `None` where it is refused.
     pub fn apply(&self, offer: &Offer, capacity: usize) -> (Answer, Option<Self>) {
-        match self.merged(offer) {
-            Err(told) => (Answer::refused(told), None),
+        let merged = self.merged(offer).and_then(|merged| {
             // The original has no capacity.
-            Ok((_, after)) if after.log.len() > capacity => (Answer::refused(refused(17)), None),
-            Ok((_, after)) if !authors_fit(&after.log) => (Answer::refused(refused(18)), None),
-            Ok((answer, after)) => (answer, Some(after)),
+            let after = &merged.after;
+            match after.log.len() > capacity {
+                true => Err(refused(17)),
+                false if !authors_fit(&after.log) => Err(refused(18)),
+                false => Ok(merged),
+            }
+        });
+        match merged {
+            Err(told) => (Answer::refused(told, &offer.clock), None),
+            Ok(Merged {
+                counts,
+                lines,
+                after,
+            }) => {
+                let (last, folds) = folded(&offer.clock, offer.time, &offer.stamps());
+                (Answer::accepted(counts, lines, last, folds), Some(after))
+            }
         }
     }
 
-    fn merged(&self, offer: &Offer) -> Result<(Answer, Self), Told> {
+    fn merged(&self, offer: &Offer) -> Result<Merged, Told> {
         let mut after = self.clone();
         let mut ran = run(&mut after.merger, &mut after.log, offer)?;
         if let Some(unfloored) = &mut after.unfloored {
@@ -62,9 +83,11 @@ impl Original {
         }
         after.held = pending::held(&after.merger);
         assert_eq!(after.held.len(), ran.report.buffered);
-        let lines = self.lines(&ran, &after);
-        let told = self.told(&ran.report, &after, offer);
-        Ok((Answer { told, lines }, after))
+        Ok(Merged {
+            counts: self.counts(&ran.report, &after, offer),
+            lines: self.lines(&ran, &after),
+            after,
+        })
     }
 
     /// A line for each logged row, all of whose authors are told. An author's rows go in the order of their sequence.
@@ -102,18 +125,18 @@ impl Original {
     }
 
     /// The report, with the counts that document 01 adds.
-    fn told(&self, report: &MergeReport, after: &Self, offer: &Offer) -> MergeTold {
+    fn counts(&self, report: &MergeReport, after: &Self, offer: &Offer) -> DeltaTold {
         let age = offer.limits.max_pending_age_ms;
         let oldest = offer.time.saturating_sub(age);
         let expired = self.held.iter().filter(|held| held.arrival < oldest);
-        let mut told = reported(report);
-        told.expired = expired.count() as u64;
+        let mut counts = reported(report);
+        counts.expired = expired.count() as u64;
         let logged = (after.log.len() - self.log.len()) as u64;
-        assert_eq!(told.applied + told.stale + told.rejected, logged);
+        assert_eq!(counts.applied + counts.stale + counts.rejected, logged);
         // Of the rows before, these are left when all others are counted.
         let rows = (self.held.len() + offer.rows.len()) as u64;
-        told.dropped = rows - told.expired - told.duplicates - logged - told.held;
-        told
+        counts.dropped = rows - counts.expired - counts.duplicates - logged - counts.held;
+        counts
     }
 
     /// Raises the floor.

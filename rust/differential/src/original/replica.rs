@@ -4,10 +4,10 @@ use std::cell::RefCell;
 use std::collections::VecDeque;
 use std::rc::Rc;
 
-use cuwelfra_sys::MergeTold;
+use cuwelfra_sys::{DeltaTold, Told};
 use oracle::clock::ManualClock;
 use oracle::engine::{Event, LogImage, Replica, ReplicaConfig};
-use oracle::error::{EngineError, FrameError};
+use oracle::error::{ClockError, EngineError, FrameError};
 use oracle::log::ReplicatedLog;
 use oracle::merge::MergeReport;
 use oracle::stubs::crypto::{Signature, Signer, Verifier};
@@ -15,11 +15,8 @@ use oracle::stubs::{ActorId, UirNode};
 
 use crate::original::beside::{operation, row, timestamp};
 use crate::original::judges::{merge_told, rejected_fate, reported, Applied, Outcomes};
-use crate::port::batches::Offer;
+use crate::port::batches::{Folds, Offer};
 use crate::port::rows::{Row, Stamp};
-
-/// An author who offers nothing.
-const NOBODY: u64 = 1_000;
 
 pub struct Driven {
     /// `None` only while settings change.
@@ -64,29 +61,16 @@ pub struct Restoring {
 /// What a replica makes of a batch.
 #[derive(Debug, PartialEq, Eq)]
 pub struct Ran {
-    /// The counts without expired and dropped rows, which it does not count.
-    pub told: MergeTold,
+    /// The counts without expired and dropped rows, which it does not count, and without its clock, which it does not tell.
+    pub told: DeltaTold,
     /// Author, sequence, fate and detail of the rejected rows, which it raises as events.
     pub rejected: Vec<(u64, u64, u8, u8)>,
-    /// How many stamps could not be folded into its clock.
-    pub unfolded: usize,
+    /// What became of the stamps: it raises an event for each that could not be folded into its clock.
+    pub folds: Folds,
 }
 
 impl Driven {
-    /// Restored from a log's rows, its compacted clock and a floor.
-    pub fn new(log: &ReplicatedLog, floor: Option<Stamp>) -> Self {
-        let from = Restoring {
-            author: NOBODY,
-            floor,
-            issued: 0,
-            // All of the log is in the past of the last time.
-            time: u64::MAX,
-            signing: Signing(8),
-        };
-        Self::restored(log, from).expect("a log of the past")
-    }
-
-    /// The same with an author, a number last issued and a time; `None` where a stamp cannot be folded into the clock.
+    /// Restored from a log's rows and its compacted clock; `None` where a stamp cannot be folded into the clock.
     pub fn restored(log: &ReplicatedLog, from: Restoring) -> Option<Self> {
         let own = ActorId(from.author);
         let time = ManualClock::new(from.time);
@@ -162,34 +146,47 @@ impl Driven {
         let ops = offer.rows.iter().map(|lent| operation(&lent.row));
         let answer = self.replica().import_ops(ops.collect());
         let events = self.replica().drain_events();
-        let rejected: Vec<_> = events.iter().filter_map(rejected).collect();
-        Ran {
+        let mut ran = Ran {
             told: told(answer),
-            unfolded: events.len() - rejected.len(),
-            rejected,
+            rejected: Vec::new(),
+            folds: Folds::default(),
+        };
+        for event in &events {
+            ran.note(event);
+        }
+        if ran.told.told == Told::default() {
+            ran.folds.passed = offer.rows.len() as u64 - ran.told.failed_folds;
+        }
+        ran
+    }
+}
+
+impl Ran {
+    fn note(&mut self, event: &Event) {
+        match event {
+            Event::OpRejected { actor, seq, error } => {
+                let (fate, detail) = rejected_fate(error);
+                self.rejected.push((actor.0, *seq, fate, detail));
+            }
+            Event::ClockFoldFailed(error) => {
+                self.told.failed_folds += 1;
+                match error {
+                    ClockError::RemoteTooFarAhead { .. } => self.folds.ahead += 1,
+                    ClockError::CounterOverflow => self.folds.overflowed += 1,
+                }
+            }
+            other => panic!("a batch raises no such event: {other:?}"),
         }
     }
 }
 
-fn told(answer: Result<MergeReport, FrameError>) -> MergeTold {
+fn told(answer: Result<MergeReport, FrameError>) -> DeltaTold {
     match answer {
         Ok(report) => reported(&report),
-        Err(FrameError::Merge(error)) => MergeTold {
+        Err(FrameError::Merge(error)) => DeltaTold {
             told: merge_told(&error),
-            ..MergeTold::default()
+            ..DeltaTold::default()
         },
         Err(error) => panic!("no refusal of a batch: {error:?}"),
-    }
-}
-
-/// `None` for a stamp that could not be folded.
-fn rejected(event: &Event) -> Option<(u64, u64, u8, u8)> {
-    match event {
-        Event::OpRejected { actor, seq, error } => {
-            let (fate, detail) = rejected_fate(error);
-            Some((actor.0, *seq, fate, detail))
-        }
-        Event::ClockFoldFailed(_) => None,
-        other => panic!("a batch raises no such event: {other:?}"),
     }
 }

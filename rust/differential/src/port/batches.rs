@@ -1,9 +1,9 @@
 //! Batches and the lines of an output, by a writer of our own.
 
 use cuwelfra::Limits;
-use cuwelfra_sys::{MergeTold, Told};
+use cuwelfra_sys::{DeltaTold, HybridParts, Told};
 
-use crate::port::rows::Row;
+use crate::port::rows::{Row, Stamp};
 
 /// Bytes of a line.
 pub const LINE: usize = 18;
@@ -30,12 +30,28 @@ impl BatchRow {
     }
 }
 
-/// A batch call: settings, time and rows.
+/// A hybrid clock that has issued nothing, with the drift that settings have by default.
+pub const FRESH: HybridParts = HybridParts {
+    actor: 0,
+    last_wall: 0,
+    last_counter: 0,
+    max_drift_ms: 60_000,
+};
+
+/// A batch call: settings, time, rows, and the hybrid clock that it is handed.
 #[derive(Clone, Debug)]
 pub struct Offer {
     pub limits: Limits,
     pub time: u64,
+    pub clock: HybridParts,
     pub rows: Vec<BatchRow>,
+}
+
+impl Offer {
+    /// The stamps, in batch order.
+    pub fn stamps(&self) -> Vec<Stamp> {
+        self.rows.iter().map(|lent| lent.row.stamp).collect()
+    }
 }
 
 /// Outcome and detail of a payload: what policy and state answer wherever rows are compared.
@@ -107,19 +123,52 @@ pub struct Line {
     pub detail: u8,
 }
 
-/// What a batch call tells, and the lines that it writes.
+/// What became of the stamps of an accepted batch. A call tells the failed ones as one number.
+#[derive(Clone, Copy, Debug, Default, PartialEq, Eq)]
+pub struct Folds {
+    pub passed: u64,
+    /// Failed by 20.
+    pub ahead: u64,
+    /// Failed by 19.
+    pub overflowed: u64,
+    /// Whether the same stamps, the last one first, give another clock.
+    pub ordered: bool,
+}
+
+/// What a batch call tells, the lines that it writes, and what became of the stamps.
 #[derive(Clone, Debug, PartialEq, Eq)]
 pub struct Answer {
-    pub told: MergeTold,
+    pub told: DeltaTold,
     pub lines: Vec<Line>,
+    pub folds: Folds,
 }
 
 impl Answer {
-    pub fn refused(told: Told) -> Self {
-        let counts = MergeTold::default();
+    /// A refusal counts nothing and hands the clock back.
+    pub fn refused(told: Told, clock: &HybridParts) -> Self {
         Self {
-            told: MergeTold { told, ..counts },
+            told: DeltaTold {
+                told,
+                last_wall: clock.last_wall,
+                last_counter: clock.last_counter.into(),
+                ..DeltaTold::default()
+            },
             lines: Vec::new(),
+            folds: Folds::default(),
+        }
+    }
+
+    /// The answer to an accepted batch, by its counts, with the wall and the counter that its folds lead to.
+    pub fn accepted(counts: DeltaTold, lines: Vec<Line>, last: (u64, u32), folds: Folds) -> Self {
+        Self {
+            told: DeltaTold {
+                failed_folds: folds.ahead + folds.overflowed,
+                last_wall: last.0,
+                last_counter: last.1.into(),
+                ..counts
+            },
+            lines,
+            folds,
         }
     }
 

@@ -1,10 +1,11 @@
 //! A store and its calls in words, for cases that are written by hand.
 
 use cuwelfra::Limits;
-use cuwelfra_sys::{self as sys, Told};
+use cuwelfra_sys::{self as sys, HybridParts, Told};
 
+use crate::model::folding::same_clock;
 use crate::port::area::word;
-use crate::port::batches::{Answer, BatchRow, Offer, LINE};
+use crate::port::batches::{BatchRow, Offer, FRESH, LINE};
 use crate::port::lending::{call, Answered, Lent};
 use crate::port::rows::{Held, Row, Stamp};
 use crate::port::store::{self, is_zero, Areas, Content};
@@ -33,6 +34,12 @@ impl BatchRow {
         self
     }
 
+    /// With this counter.
+    pub fn counter(mut self, counter: u32) -> Self {
+        self.row.stamp.1 = counter;
+        self
+    }
+
     /// With one more dependency, on a greater author than before.
     pub fn needs(mut self, author: u64, number: u64) -> Self {
         self.row.deps.push((author, number));
@@ -55,11 +62,12 @@ impl BatchRow {
     }
 }
 
-/// A store, and the settings and the time of its calls.
+/// A store with a hybrid clock, and the settings and the time of its calls.
 pub struct Desk {
     pub areas: Areas,
     pub limits: Limits,
     pub time: u64,
+    pub clock: HybridParts,
 }
 
 impl Desk {
@@ -69,6 +77,7 @@ impl Desk {
             areas: Areas::new(capacity, 0),
             limits: Limits::default(),
             time: 1_000,
+            clock: FRESH,
         }
     }
 
@@ -77,6 +86,7 @@ impl Desk {
         let offer = Offer {
             limits: self.limits,
             time: self.time,
+            clock: self.clock,
             rows: rows.to_vec(),
         };
         Lent::new(&offer, word(&self.areas.head, 1) as usize)
@@ -93,16 +103,19 @@ impl Desk {
         self.call(&lent)
     }
 
-    /// The call's answer. A refusal must leave the store and count nothing.
+    /// The call's answer; the clock moves on. A refusal must leave store and clock, and count nothing.
     pub fn answer(&mut self, lent: &Lent) -> Answered {
         let before = self.areas.clone();
         let answer = call(&mut self.areas, lent);
         assert!(is_zero(&answer.scratch), "scratch");
         if answer.told.told != Told::default() {
             assert!(self.areas == before, "a refusal changed the store");
-            let refused = Answer::refused(answer.told.told);
-            assert_eq!(answer.told, refused.told, "a refusal counted rows");
         }
+        if let Err(difference) = same_clock(lent, &answer.told) {
+            panic!("{difference}");
+        }
+        self.clock.last_wall = answer.told.last_wall;
+        self.clock.last_counter = answer.told.last_counter as u32;
         answer
     }
 
@@ -121,6 +134,7 @@ impl Desk {
             ("duplicates", told.duplicates),
             ("expired", told.expired),
             ("dropped", told.dropped),
+            ("failed folds", told.failed_folds),
         ];
         let mut parts = Vec::new();
         if !lines.is_empty() {
@@ -130,6 +144,11 @@ impl Desk {
             parts.push(format!("{name} {count}"));
         }
         parts.join("; ")
+    }
+
+    /// Wall and counter of the hybrid clock.
+    pub fn stands(&self) -> String {
+        format!("{}/{}", self.clock.last_wall, self.clock.last_counter)
     }
 
     pub fn set_floor(&mut self, stamp: Stamp) -> String {

@@ -1,7 +1,7 @@
 //! Batch calls of the port: what they are lent, and that they change only what they may.
 
 use cuwelfra::Limits;
-use cuwelfra_sys::{self as sys, MergeTold};
+use cuwelfra_sys::{self as sys, DeltaTold, HybridParts};
 
 use crate::port::batches::{batch, Answer, Offer, LINE};
 use crate::port::rows::SLOT;
@@ -13,6 +13,7 @@ use crate::support::{agree, pattern, Check};
 pub struct Lent {
     pub limits: Limits,
     pub time: u64,
+    pub clock: HybridParts,
     pub batch: Vec<u8>,
     /// Lengths of scratch and output.
     pub scratch: usize,
@@ -26,6 +27,7 @@ impl Lent {
         Self {
             limits: offer.limits,
             time: offer.time,
+            clock: offer.clock,
             batch: batch(&offer.rows),
             scratch: SLOT * room,
             output: LINE * room,
@@ -35,7 +37,7 @@ impl Lent {
 
 /// What a call told and left.
 pub struct Answered {
-    pub told: MergeTold,
+    pub told: DeltaTold,
     pub scratch: Vec<u8>,
     pub output: Vec<u8>,
 }
@@ -49,9 +51,10 @@ pub fn call(areas: &mut Areas, lent: &Lent) -> Answered {
         held: &mut areas.held,
         head: &mut areas.head,
     };
-    let told = sys::apply_remote_ops(
+    let told = sys::apply_delta(
         lent.limits.settings(),
         lent.time,
+        lent.clock,
         store,
         &lent.batch,
         &mut scratch,

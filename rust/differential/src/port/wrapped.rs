@@ -1,14 +1,14 @@
-//! Rows, stamps and refusals in the wrapper's form, and batch calls through it, on batches that it builds.
+//! Rows, stamps, clocks and refusals in the wrapper's form, and batch calls through it, on batches that it builds.
 
-use cuwelfra::{ActorId, ApplyError, Batch, Fate, Logged, Outcome, Report, Request};
-use cuwelfra_sys::Told;
+use cuwelfra::{ActorId, ApplyError, Batch, Fate, HybridClock, Logged, Outcome, Report, Request};
+use cuwelfra_sys::{HybridParts, Told};
 
 use crate::port::batches::{batch, Answer, BatchRow, Line, Offer};
 use crate::port::rows::{Row, Stamp};
 use crate::port::store::Areas;
 use crate::support::{agree, Check};
 
-/// Requires that the wrapper builds these bytes, and that its call answers so.
+/// Requires that the wrapper builds these bytes, and that its call answers so and moves the clock so.
 pub fn same_call(
     areas: &mut Areas,
     offer: &Offer,
@@ -18,12 +18,28 @@ pub fn same_call(
     let built = build(&offer.rows);
     agree(&built.bytes(), &&batch(&offer.rows)[..], &inputs)?;
     agree(&built.len(), &offer.rows.len(), &inputs)?;
+    let mut clock = wrapped_clock(&offer.clock);
     let report = areas.wrapped(|store| {
         let request = Request::at(offer.time).with_limits(offer.limits);
-        let answer = store.apply_remote_ops(&request, &built);
+        let answer = store.apply_delta(&mut clock, &request, &built);
         answer.map_err(|refusal| refusal.told())
     });
-    agree(&report, &expected(answer), inputs)
+    agree(&report, &expected(answer), &inputs)?;
+    let after = HybridParts {
+        last_wall: answer.told.last_wall,
+        last_counter: answer.told.last_counter as u32,
+        ..offer.clock
+    };
+    agree(&clock, &wrapped_clock(&after), inputs)
+}
+
+pub fn wrapped_clock(clock: &HybridParts) -> HybridClock {
+    HybridClock::from_parts(cuwelfra::HybridParts {
+        actor: ActorId(clock.actor),
+        last_wall: clock.last_wall,
+        last_counter: clock.last_counter,
+        max_drift_ms: clock.max_drift_ms,
+    })
 }
 
 fn build(rows: &[BatchRow]) -> Batch {
@@ -64,6 +80,7 @@ fn expected(answer: &Answer) -> Result<Report, Told> {
     report.held = told.held as usize;
     report.expired = told.expired as usize;
     report.dropped = told.dropped as usize;
+    report.failed_folds = told.failed_folds as usize;
     report.logged = answer.lines.iter().map(logged).collect();
     Ok(report)
 }
@@ -90,6 +107,17 @@ pub fn wrapped_row(row: &Row) -> cuwelfra::Row {
         deps: row.deps.iter().map(|(a, n)| (ActorId(*a), *n)).collect(),
         payload: row.payload.clone(),
         signature: row.signature.clone(),
+    }
+}
+
+/// The clock as a batch call takes it.
+pub fn plain_clock(clock: &HybridClock) -> HybridParts {
+    let parts = clock.to_parts();
+    HybridParts {
+        actor: parts.actor.0,
+        last_wall: parts.last_wall,
+        last_counter: parts.last_counter,
+        max_drift_ms: parts.max_drift_ms,
     }
 }
 

@@ -1,10 +1,11 @@
 //! Every exported call that takes a store, with its other areas.
 
 use cuwelfra::Limits;
-use cuwelfra_sys::{self as sys, ClockNumber, LookupTold, StampTold, Told};
+use cuwelfra_sys::{self as sys, ClockNumber, HybridParts, LookupTold, StampTold, Told};
 
+use crate::model::folding::same_clock;
 use crate::port::area::{self, BYTES};
-use crate::port::batches::{unsigned, Answer};
+use crate::port::batches::unsigned;
 use crate::port::lending::{self, Lent};
 use crate::port::own::{self, Sealing};
 use crate::port::rows::{Row, DEPS, SLOT};
@@ -114,7 +115,7 @@ pub const CALLS: [(&str, Takes, Call); 19] = [
         let floor = (u64::MAX, 0, o.author);
         sys::set_floor(&s.log, &s.held, &mut s.head, floor)
     }),
-    ("apply_remote_ops", Takes::Nothing, |s, o| merged(s, o)),
+    ("apply_delta", Takes::Nothing, |s, o| merged(s, o)),
     ("seal", Takes::Nothing, |s, o| sealed(s, o)),
 ];
 
@@ -141,26 +142,27 @@ pub fn spoil(takes: Takes, others: &mut Others) -> bool {
     true
 }
 
-/// A batch without rows. Scratch is zero afterwards, and a refusal gives no counts.
+/// A batch without rows. Scratch is zero afterwards, the hybrid clock as before, and a refusal gives no counts.
 fn merged(s: &mut Areas, o: &mut Others) -> Told {
     let lent = Lent {
         limits: Limits::default(),
         time: 0,
+        clock: HybridParts {
+            actor: o.author,
+            last_wall: o.seq,
+            last_counter: o.seq as u32,
+            max_drift_ms: o.author,
+        },
         batch: vec![0],
         scratch: HELD,
         output: o.output.len(),
     };
     let answered = lending::call(s, &lent);
-    let told = answered.told.told;
     assert!(is_zero(&answered.scratch), "scratch");
-    if told != Told::default() {
-        let refused = Answer::refused(told);
-        assert_eq!(
-            answered.told, refused.told,
-            "a refused call gives no counts"
-        );
+    if let Err(difference) = same_clock(&lent, &answered.told) {
+        panic!("{difference}");
     }
-    told
+    answered.told.told
 }
 
 /// A row that depends on the store's clock, or on as much of it as a row can.

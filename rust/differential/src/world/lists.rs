@@ -5,15 +5,23 @@ use std::collections::BTreeMap;
 
 use cuwelfra::Limits;
 
-use crate::port::batches::{BatchRow, Offer};
+use crate::port::batches::{BatchRow, Offer, FRESH};
 use crate::port::rows::{Row, Stamp};
 use crate::rng::Rng;
+use crate::world::clocks::clock;
+
+/// Counters of most universes.
+const FIRST: [u32; 3] = [0, 0, 1];
+/// The last counters that a row may have, and the one before them.
+const LAST: [u32; 3] = [u32::MAX - 1, u32::MAX - 1, u32::MAX - 2];
 
 pub struct Universe {
     pub authors: Vec<u64>,
     /// The clock number that every author starts from.
     pub start: u64,
     now: u64,
+    /// The stamps' counters.
+    counters: [u32; 3],
     /// Every row, and other contents of some.
     pub rows: Vec<Row>,
 }
@@ -35,6 +43,7 @@ impl Universe {
             authors: authors.to_vec(),
             start,
             now: rng.pick(&[0, 2, 1_000, 1_000, 1_000, 1_000, u64::MAX - 1]),
+            counters: rng.pick(&[FIRST, FIRST, FIRST, FIRST, FIRST, LAST]),
             rows: Vec::new(),
         };
         for author in authors {
@@ -62,7 +71,7 @@ impl Universe {
         let payload: &[u8] = rng.pick(&[&[], &[1], &[2], &[3, 4], &[5, 6, 7]]);
         let signature: &[u8] = rng.pick(&[&[], &[], &[9], &[8, 9]]);
         Row {
-            stamp: (wall, rng.pick(&[0, 0, 1]), author),
+            stamp: (wall, rng.pick(&self.counters), author),
             author,
             seq,
             deps: deps.into_iter().collect(),
@@ -151,6 +160,7 @@ impl Universe {
         let mut offer = Offer {
             limits: limits(rng),
             time: self.time(rng),
+            clock: FRESH,
             rows: self.batch(rng),
         };
         if rng.once_in(8) {
@@ -158,6 +168,7 @@ impl Universe {
                 spoil(rng, &mut offer);
             }
         }
+        offer.clock = clock(rng, &offer.limits, offer.time, &offer.rows);
         offer
     }
 
@@ -182,10 +193,15 @@ pub fn gated(rng: &mut Rng, authors: u64) -> [Offer; 2] {
     (gate.author, gate.stamp.2, gate.seq) = (1, 1, 1);
     gate.deps.clear();
     let later = rows.split_off(64);
-    [rows, later].map(|rows| Offer {
-        limits: Limits::default(),
-        time: u64::MAX,
-        rows: rows.into_iter().map(BatchRow::new).collect(),
+    [rows, later].map(|rows| {
+        let (limits, time) = (Limits::default(), u64::MAX);
+        let rows: Vec<BatchRow> = rows.into_iter().map(BatchRow::new).collect();
+        Offer {
+            limits,
+            time,
+            clock: clock(rng, &limits, time, &rows),
+            rows,
+        }
     })
 }
 

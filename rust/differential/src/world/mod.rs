@@ -1,6 +1,7 @@
 //! Random rows, clocks and stores over few authors and times, so that ties, repeats and gaps are common.
 
 pub mod calls;
+pub mod clocks;
 pub mod damage;
 pub mod lists;
 pub mod strange;

@@ -12,6 +12,7 @@ use crate::port::rows::SLOT;
 use crate::port::store::{Areas, HEAD, HELD};
 use crate::rng::Rng;
 use crate::support::{Check, Outcome};
+use crate::world::clocks::clock;
 use crate::world::damage::{last_held, DAMAGES, HELD_DAMAGES};
 use crate::world::lists::Universe;
 
@@ -68,6 +69,7 @@ pub fn run(rng: &mut Rng) -> Outcome {
         sample.in_order(&mut census)?;
         sample.damaged(&mut census)?;
     }
+    census.folds("batch-bytes", &["passed"])?;
     census.finish("batch-bytes", 1..=4, &[])
 }
 
@@ -83,10 +85,15 @@ impl Sample {
         let universe = Universe::new(rng);
         let behind = rng.pick(&[0, 1, 703]);
         let mut areas = Areas::new(8, behind);
-        let offer = |rng: &mut Rng| Offer {
-            limits: Limits::default(),
-            time: universe.time(rng),
-            rows: universe.batch(rng),
+        let offer = |rng: &mut Rng| {
+            let (limits, time) = (Limits::default(), universe.time(rng));
+            let rows = universe.batch(rng);
+            Offer {
+                limits,
+                time,
+                clock: clock(rng, &limits, time, &rows),
+                rows,
+            }
         };
         for _ in 0..2 {
             (_, areas) = batch_call(&areas, &Lent::new(&offer(rng), 64));
@@ -172,6 +179,7 @@ impl Sample {
             let offer = Offer {
                 limits: self.lent.limits,
                 time: self.lent.time,
+                clock: self.lent.clock,
                 rows: rows.to_vec(),
             };
             modelled(census, &self.areas, &Lent::new(&offer, 64))

@@ -80,7 +80,7 @@ fn broken_alone(areas: &Areas, others: &Others, broken: &mut [u64]) -> Outcome {
 fn taken(areas: &Areas, others: &Others) -> Outcome {
     for (name, takes, call) in CALLS {
         let told = call(&mut areas.clone(), &mut others.clone());
-        let logs = ["insert", "apply_remote_ops", "seal"].contains(&name);
+        let logs = ["insert", "apply_delta", "seal"].contains(&name);
         let passed = told == Told::default() || (logs && told.number >= 17);
         agree(&passed, &true, || format!("{name} of a sound store"))?;
         let mut spoilt = others.clone();

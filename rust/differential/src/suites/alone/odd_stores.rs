@@ -1,7 +1,7 @@
 //! Batch calls on sound stores that no call list leaves: rows held with foreign stamps, of sequence 0, at or below the
 //! clock or ready; logs with gaps and repeats. The model answers.
 
-use crate::census::{Census, MOVES};
+use crate::census::{Census, FOLDS, MOVES};
 use crate::model::modelled;
 use crate::port::batches::{BatchRow, Offer};
 use crate::port::lending::Lent;
@@ -18,6 +18,7 @@ pub fn run(rng: &mut Rng) -> Outcome {
     for _ in 0..CALLS {
         one(rng, &mut census)?;
     }
+    census.folds("odd-stores", &FOLDS)?;
     census.finish("odd-stores", 5..=17, &MOVES)
 }
 

@@ -1,14 +1,16 @@
-//! Lists of a few calls on one store of the port and one merger of the original, over small universes.
+//! Lists of a few calls on one store of the port and one merger and hybrid clock of the original, over small universes.
 
+use cuwelfra_sys::HybridParts;
 use oracle::log::ReplicatedLog;
 use oracle::stubs::ActorId;
 
-use crate::census::{Census, MOVES};
+use crate::boundaries::Boundaries;
+use crate::census::{Census, FOLDS, MOVES};
 use crate::model::modelled;
 use crate::original::beside::log_of;
 use crate::original::joined::Joined;
 use crate::port::area::AUTHORS;
-use crate::port::batches::{unsigned, Offer};
+use crate::port::batches::{unsigned, Answer, Offer};
 use crate::port::own::Sealing;
 use crate::port::rows::Row;
 use crate::port::store::Entries;
@@ -19,22 +21,38 @@ use crate::world::strange::{damaged, over_capacity, over_limits, short, unreadab
 
 const LISTS: u64 = 500_000;
 
+#[derive(Default)]
+struct Counts {
+    census: Census,
+    boundaries: Boundaries,
+}
+
+impl Counts {
+    fn note(&mut self, offer: &Offer, answer: &Answer) {
+        self.census.note(&answer.told, &answer.folds);
+        self.boundaries.note(offer, answer);
+    }
+}
+
 pub fn run(rng: &mut Rng) -> Outcome {
-    let mut census = Census::default();
+    let mut counts = Counts::default();
     for _ in 0..LISTS {
         match rng.below(400) {
-            0 => wide(rng, &mut census)?,
-            1..=8 => crowded(rng, &mut census)?,
-            _ => small(rng, &mut census)?,
+            0 => wide(rng, &mut counts)?,
+            1..=8 => crowded(rng, &mut counts)?,
+            _ => small(rng, &mut counts)?,
         }
     }
     let numbers = [0, 17, 18, 26, 27, 28];
+    let Counts { census, boundaries } = counts;
     let own = census.own.finish("call-lists, rows of its own", &numbers)?;
+    boundaries.finish("call-lists")?;
+    census.folds("call-lists", &FOLDS)?;
     Ok(own + census.finish("call-lists", 1..=18, &MOVES)?)
 }
 
 /// Few authors, and a log with few slots.
-fn small(rng: &mut Rng, census: &mut Census) -> Check {
+fn small(rng: &mut Rng, counts: &mut Counts) -> Check {
     let universe = Universe::new(rng);
     let start = universe.start;
     let authors = universe
@@ -45,13 +63,13 @@ fn small(rng: &mut Rng, census: &mut Census) -> Check {
     let capacity = rng.pick(&[1, 2, 3, 4, 6, 8, 12]);
     let mut joined = Joined::new(log_of(&[], &compacted), capacity);
     for _ in 0..1 + rng.below(5) {
-        step(rng, &universe, &mut joined, census)?;
+        step(rng, &universe, &mut joined, counts)?;
     }
     Ok(())
 }
 
 /// As many authors as a clock has places, or one or two less.
-fn crowded(rng: &mut Rng, census: &mut Census) -> Check {
+fn crowded(rng: &mut Rng, counts: &mut Counts) -> Check {
     let present = AUTHORS as u64 - rng.next() % 3;
     let universe = Universe::of(rng, &[1, 2, present, 33, 34, 35], 0);
     let seq = rng.next() % 2;
@@ -65,23 +83,24 @@ fn crowded(rng: &mut Rng, census: &mut Census) -> Check {
     let capacity = log.len() + rng.pick(&[1, 3, 20]);
     let mut joined = Joined::new(log, capacity);
     for _ in 0..1 + rng.below(5) {
-        step(rng, &universe, &mut joined, census)?;
+        step(rng, &universe, &mut joined, counts)?;
     }
     Ok(())
 }
 
 /// 64 held rows and as many in a batch that releases them all, of as many authors or of few.
-fn wide(rng: &mut Rng, census: &mut Census) -> Check {
+fn wide(rng: &mut Rng, counts: &mut Counts) -> Check {
     let authors = rng.pick(&[10, 31, 32, 64, 128]);
     let capacity = rng.pick(&[127, 128, 140]);
     let mut joined = Joined::new(ReplicatedLog::new(), capacity);
     for offer in gated(rng, authors) {
-        census.note(&joined.batch(rng, &offer)?);
+        let answer = joined.batch(rng, &offer)?;
+        counts.note(&offer, &answer);
     }
     Ok(())
 }
 
-fn step(rng: &mut Rng, universe: &Universe, joined: &mut Joined, census: &mut Census) -> Check {
+fn step(rng: &mut Rng, universe: &Universe, joined: &mut Joined, counts: &mut Counts) -> Check {
     match rng.below(22) {
         0 | 1 => {
             let floor = universe.stamp(rng);
@@ -96,22 +115,29 @@ fn step(rng: &mut Rng, universe: &Universe, joined: &mut Joined, census: &mut Ce
         5 => {
             let row = &universe.rows[rng.below(universe.rows.len())];
             let issued = row.seq.saturating_sub(rng.next() % 4);
-            census.own.note(&joined.own(row, issued)?);
+            counts.census.own.note(&joined.own(row, issued)?);
             return Ok(());
         }
         6 => {
             let row = &universe.rows[rng.below(universe.rows.len())];
-            census.own.note(&joined.seal(&sealing(row))?);
+            counts.census.own.note(&joined.seal(&sealing(row))?);
             return Ok(());
         }
         _ => {}
     }
     let mut offer = universe.offer(rng);
     if rng.once_in(30) {
-        return beyond(rng, joined, offer, census);
+        return beyond(rng, joined, offer, counts);
     }
     other_outcomes(rng, joined, &mut offer);
-    census.note(&joined.batch(rng, &offer)?);
+    if rng.once_in(2) {
+        offer.clock = HybridParts {
+            max_drift_ms: offer.clock.max_drift_ms,
+            ..joined.clock
+        };
+    }
+    let answer = joined.batch(rng, &offer)?;
+    counts.note(&offer, &answer);
     Ok(())
 }
 
@@ -165,7 +191,7 @@ pub fn ignored(joined: &Joined, offer: &Offer) -> Vec<bool> {
 }
 
 /// A call that the original cannot answer: over capacity, short, damaged or unreadable.
-fn beyond(rng: &mut Rng, joined: &Joined, mut offer: Offer, census: &mut Census) -> Check {
+fn beyond(rng: &mut Rng, joined: &Joined, mut offer: Offer, counts: &mut Counts) -> Check {
     let mut areas = joined.areas.clone();
     match rng.below(4) {
         0 => over_capacity(rng, &mut offer.rows),
@@ -179,5 +205,5 @@ fn beyond(rng: &mut Rng, joined: &Joined, mut offer: Offer, census: &mut Census)
         2 => over_limits(rng, &mut lent.limits),
         _ => {}
     }
-    modelled(census, &areas, &lent)
+    modelled(&mut counts.census, &areas, &lent)
 }

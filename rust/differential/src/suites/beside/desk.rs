@@ -11,17 +11,18 @@ use oracle::error::{ApplyError, EngineError};
 use oracle::log::ReplicatedLog;
 use oracle::stubs::crypto::Signer;
 
+use crate::model::folding::same_clock;
 use crate::model::own::{prepare_call, seal_call};
 use crate::original::beside::{authors_fit, content_of, log_of, operation};
 use crate::original::replica::{Driven, Restoring, Signing};
 use crate::original::{clock_told, written};
 use crate::port::area::{self, word};
-use crate::port::batches::{outcome_of, Offer};
+use crate::port::batches::outcome_of;
 use crate::port::lending::{call, Lent};
 use crate::port::own::{prepare, seal, Preparing, Sealing};
 use crate::port::rows::{Row, DEPS, PAYLOAD};
 use crate::port::store::{self, same_areas, Areas, Content, Entries};
-use crate::port::wrapped::{refusal, wrapped_stamp};
+use crate::port::wrapped::{plain_clock, refusal, wrapped_stamp};
 use crate::rng::Rng;
 use crate::support::{agree, note, refused, Check, Outcome};
 use crate::world::lists::Universe;
@@ -202,7 +203,7 @@ fn folded(log: &ReplicatedLog, from: &Restoring) -> Option<HybridClock> {
     Some(clock)
 }
 
-/// A batch on both sides, whose stamps are folded in.
+/// A batch on both sides, whose stamps are folded in. A replica gives its merger and its clock one drift.
 fn batch(rng: &mut Rng, universe: &Universe, both: &mut Both, counts: &mut Counts) -> Check {
     let mut offer = universe.offer(rng);
     offer.limits.max_deps = 16;
@@ -210,26 +211,20 @@ fn batch(rng: &mut Rng, universe: &Universe, both: &mut Both, counts: &mut Count
     for lent in &mut offer.rows {
         (lent.outcome, lent.detail) = outcome_of(lent.row.author, &lent.row.payload);
     }
-    let lent = Lent::new(&offer, word(&both.areas.head, 1) as usize);
-    let told = call(&mut both.areas, &lent).told.told;
-    let ran = both.replica.apply(&offer);
-    agree(&told, &ran.told.told, || format!("{offer:02x?}"))?;
     both.clock.set_max_drift(offer.limits.max_drift_ms);
-    if told == Told::default() {
-        let unfolded = fold(&mut both.clock, &offer);
-        agree(&unfolded, &ran.unfolded, || {
-            format!("stamps of {offer:02x?}")
-        })?;
-        counts.batches += 1;
-        counts.unfolded += unfolded as u64;
-    }
+    offer.clock = plain_clock(&both.clock);
+    let lent = Lent::new(&offer, word(&both.areas.head, 1) as usize);
+    let told = call(&mut both.areas, &lent).told;
+    same_clock(&lent, &told)?;
+    let ran = both.replica.apply(&offer);
+    agree(&told.told, &ran.told.told, || format!("{offer:02x?}"))?;
+    agree(&told.failed_folds, &ran.told.failed_folds, || {
+        format!("stamps of {offer:02x?}")
+    })?;
+    moved(&mut both.clock, told.last_wall, told.last_counter);
+    counts.batches += u64::from(told.told == Told::default());
+    counts.unfolded += told.failed_folds;
     same_store(both, || format!("{offer:02x?}"))
-}
-
-fn fold(clock: &mut HybridClock, offer: &Offer) -> usize {
-    let stamps = offer.rows.iter().map(|lent| wrapped_stamp(lent.row.stamp));
-    let updates = stamps.map(|stamp| clock.update(&stamp, offer.time));
-    updates.filter(Result::is_err).count()
 }
 
 /// Requires that the replica has the log, the count of held rows and the number last issued of this side.

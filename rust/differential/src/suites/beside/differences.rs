@@ -1,15 +1,23 @@
 //! Inputs of docs/DIFFERENCES.md that no other suite has, on both sides.
 
+use std::cell::RefCell;
 use std::cmp::Ordering;
+use std::collections::VecDeque;
+use std::rc::Rc;
 
 use cuwelfra_sys::{self as sys, Told};
-use oracle::clock::{CausalOrder, VectorClock};
+use oracle::clock::{CausalOrder, ClockSource, VectorClock};
 use oracle::codec::{BinaryCodec, Codec};
+use oracle::engine::Replica;
 use oracle::error::CodecError;
 use oracle::open::Reader;
 use oracle::peer::Peer;
-use oracle::stubs::ActorId;
+use oracle::stubs::crypto::Verifier;
+use oracle::stubs::{ActorId, UirNode};
 
+use crate::original::beside::operation;
+use crate::original::judges::Applied;
+use crate::original::replica::Signing;
 use crate::port::area::{self, set_word};
 use crate::port::desk::{row, Desk};
 use crate::rng::Rng;
@@ -18,12 +26,13 @@ use crate::support::{accepted, agree, refused, Check, Outcome};
 
 type Case = fn() -> Check;
 
-const CASES: [(&str, Case); 5] = [
+const CASES: [(&str, Case); 6] = [
     ("a peer with nine pings", nine_pings),
     ("80 ten times, then 00", eleven_bytes),
     ("{1: 0} beside {}", zero_number),
     ("a count above the bytes left", count_above_rest),
     ("where a refused read leaves the position", refused_read),
+    ("a time for each fold", time_of_folds),
 ];
 
 pub fn run(_: &mut Rng) -> Outcome {
@@ -135,6 +144,51 @@ fn refused_read() -> Check {
     let number = port.bytes(9).map_err(|refusal| refusal.number());
     agree(&number, &Err(24), String::new)?;
     agree(&(port.position(), port.remaining()), &(0, 1), String::new)
+}
+
+/// The times that are read next, then 0.
+#[derive(Clone, Default)]
+struct Times(Rc<RefCell<VecDeque<u64>>>);
+
+impl ClockSource for Times {
+    fn now_ms(&self) -> u64 {
+        self.0.borrow_mut().pop_front().unwrap_or(0)
+    }
+}
+
+/// A verifier that says yes.
+struct Verified;
+
+impl Verifier for Verified {
+    fn verify(&self, _: ActorId, _: &[u8], _: &[u8]) -> bool {
+        true
+    }
+}
+
+/// Two stamps, 10/5 and 10/7. The original reads 10 to merge, then 11 and 12 to fold; here the time is 10.
+fn time_of_folds() -> Check {
+    let rows = [row(2, 1).at(10).counter(5), row(3, 1).at(10).counter(7)];
+    let times = Times::default();
+    // An empty payload of author 8 fits.
+    let mut replica = Replica::new(
+        ActorId(8),
+        Applied::default(),
+        Box::new(Signing(8)),
+        Box::new(Verified),
+        Box::new(times.clone()),
+    );
+    times.0.replace([10, 11, 12].into());
+    let operations = rows.iter().map(|lent| operation(&lent.row)).collect();
+    let report = replica.import_ops(operations);
+    agree(&report.is_ok(), &true, String::new)?;
+    // At time 0 it adds one to the counter where it stands.
+    let own = replica.local_op(UirNode { bytes: Vec::new() });
+    let stamp = own.map(|own| (own.timestamp.wall_time, own.timestamp.logical_counter));
+    agree(&stamp, &Ok((12, 1)), String::new)?;
+    let mut desk = Desk::new(2);
+    desk.time = 10;
+    desk.offer(rows);
+    agree(&desk.stands().as_str(), &"10/8", String::new)
 }
 
 /// A batch call with these bytes on an empty store.

@@ -34,7 +34,7 @@ const CALLS: [(&str, usize, usize); 9] = [
     ("lookup", 0, LOGGED + HELD_ROWS),
     ("derive_clock", 1, AUTHORS),
     ("compact", 0, LOGGED),
-    ("apply_remote_ops", 0, OFFERED),
+    ("apply_delta", 0, OFFERED),
 ];
 
 /// What a store is counted by.
@@ -85,10 +85,10 @@ fn batches(rng: &mut Rng, tallies: &mut Tallies) -> Check {
     let authors = rng.pick(&[10, 30, 31, 32]);
     for offer in gated(rng, authors) {
         let kind = kind(&joined.original.log, joined.original.held().len());
-        let told = joined.batch(rng, &offer)?;
+        let told = joined.batch(rng, &offer)?.told;
         let logged = told.applied + told.stale + told.rejected;
         let reach = (told.told.number == 0).then_some(logged as usize);
-        tallies.note("apply_remote_ops", &kind, reach);
+        tallies.note("apply_delta", &kind, reach);
     }
     Ok(())
 }

@@ -7,7 +7,7 @@
 //! where nothing expires: batches leave no such row, only another sealing that may not stand.
 
 use crate::model::demand::{check, Against, Run};
-use crate::port::batches::{unsigned, BatchRow, Offer};
+use crate::port::batches::{unsigned, BatchRow, Offer, FRESH};
 use crate::port::desk::row;
 use crate::port::own::Sealing;
 use crate::suites::alone::convergence::desk::{Desk, Entry};
@@ -114,9 +114,10 @@ fn batch(desk: &mut Desk, row: BatchRow) {
     let accepted = desk.batch(&Offer {
         limits: cuwelfra::Limits::new(),
         time: 1_000,
+        clock: FRESH,
         rows: vec![row],
     });
-    assert!(accepted, "a row that waits");
+    assert_eq!(accepted, Ok(true), "a row that waits");
 }
 
 fn seal_own(desk: &mut Desk, author: u64, ahead: u64) {

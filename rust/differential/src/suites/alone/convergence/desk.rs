@@ -1,13 +1,14 @@
-//! A store that starts empty, and what it was offered.
+//! A store that starts empty, its hybrid clock, and what it was offered.
 
 use std::collections::BTreeSet;
 
-use cuwelfra_sys::{self as sys, Preparation, PreparedTold, Told};
+use cuwelfra_sys::{self as sys, HybridParts, Preparation, PreparedTold, Told};
 
 use crate::model::demand::{against, Run};
+use crate::model::folding::same_clock;
 use crate::model::own::{row_of, seal_call};
 use crate::port::area::{self, word, BYTES};
-use crate::port::batches::Offer;
+use crate::port::batches::{Offer, FRESH};
 use crate::port::lending::{call, Lent};
 use crate::port::own::{prepare, seal, Preparing, Sealing};
 use crate::port::rows::{Row, Stamp};
@@ -16,8 +17,8 @@ use crate::support::accepted;
 
 pub struct Desk {
     pub run: Run,
-    /// Wall time and counter of its hybrid clock.
-    last: (u64, u32),
+    /// Rows of its own are stamped by it.
+    clock: HybridParts,
 }
 
 /// How a row of its own comes about.
@@ -41,22 +42,38 @@ impl Desk {
                 sealed: 0,
                 refused: 0,
             },
-            last: (0, 0),
+            clock: FRESH,
         }
     }
 
-    /// Whether the batch was accepted.
-    pub fn batch(&mut self, offer: &Offer) -> bool {
+    /// Its own clock with another drift.
+    pub fn clock(&self, max_drift_ms: u64) -> HybridParts {
+        HybridParts {
+            max_drift_ms,
+            ..self.clock
+        }
+    }
+
+    /// Whether the batch was accepted. Its stamps are folded into the hybrid clock that comes with it; where that is its own,
+    /// it moves on.
+    pub fn batch(&mut self, offer: &Offer) -> Result<bool, String> {
         let run = &mut self.run;
         let lent = Lent::new(offer, word(&run.areas.head, 1) as usize);
-        let accepted = call(&mut run.areas, &lent).told.told == Told::default();
+        let told = call(&mut run.areas, &lent).told;
+        same_clock(&lent, &told)?;
+        if offer.clock == self.clock(offer.clock.max_drift_ms) {
+            self.clock.last_wall = told.last_wall;
+            self.clock.last_counter = told.last_counter as u32;
+        }
+        let run = &mut self.run;
+        let accepted = told.told == Told::default();
         if accepted {
             let rows = offer.rows.iter().map(|lent| lent.row.clone());
             run.offered.extend(rows);
             run.times
                 .push((offer.time, offer.limits.max_pending_age_ms));
         }
-        accepted
+        Ok(accepted)
     }
 
     pub fn set_floor(&mut self, stamp: Stamp) {
@@ -66,7 +83,7 @@ impl Desk {
     }
 
     /// The log's clock.
-    fn clock(&self) -> Entries {
+    fn log_clock(&self) -> Entries {
         area::entries(&self.run.areas.head[8 * CLOCK..]).collect()
     }
 
@@ -78,9 +95,9 @@ impl Desk {
         let lent = Preparing {
             of: Preparation {
                 author: entry.author,
-                last_wall: self.last.0,
-                last_counter: self.last.1,
-                max_drift_ms: 60_000,
+                last_wall: self.clock.last_wall,
+                last_counter: self.clock.last_counter,
+                max_drift_ms: self.clock.max_drift_ms,
                 time_ms: entry.time,
                 issued: number.saturating_add(entry.ahead),
             },
@@ -89,20 +106,21 @@ impl Desk {
             output: 624,
         };
         let (told, output) = prepare(&lent);
-        self.last = (told.last_wall, told.last_counter as u32);
+        self.clock.last_wall = told.last_wall;
+        self.clock.last_counter = told.last_counter as u32;
         bytes(&told, &output)
     }
 
     /// Whether a sealing may stand: nothing is against it, or it is refused.
     pub fn may_stand(&self, lent: &Sealing) -> bool {
         let row = row_of(lent);
-        let fair = |row: Row| against(&self.clock(), &self.run.offered, &row).is_empty();
+        let fair = |row: Row| against(&self.log_clock(), &self.run.offered, &row).is_empty();
         row.is_none_or(fair) || seal_call(&self.run.areas, lent).0 != Told::default()
     }
 
     /// Seals; an accepted row counts as offered, and what is against it is noted.
     pub fn seal(&mut self, lent: &Sealing) -> Option<Row> {
-        let clock = self.clock();
+        let clock = self.log_clock();
         if seal(&mut self.run.areas, lent) != Told::default() {
             self.run.refused += 1;
             return None;

@@ -1,4 +1,5 @@
-//! Pairs of call lists on two stores: fair offers and sealings meet demand 3. Unfair ones show that the check can fail.
+//! Pairs of call lists on two stores: fair offers and sealings meet demand 3. Unfair ones show that the check can fail. The
+//! stores' hybrid clocks are any, and are not compared with each other.
 
 mod controls;
 mod desk;
@@ -13,6 +14,7 @@ use crate::port::rows::Row;
 use crate::port::store;
 use crate::rng::Rng;
 use crate::support::{agree, note, Check, Outcome};
+use crate::world::clocks::clock;
 use crate::world::lists::Universe;
 
 const PAIRS: u64 = 100_000;
@@ -120,19 +122,19 @@ fn pair(rng: &mut Rng, kinds: &mut Kinds) -> Check {
         universe.keep_one_content();
     }
     let own = (rng.below(3) > 0).then(|| Own::new(rng, &mut universe, kind != 2));
-    let (first, mut refused) = list(rng, &universe, ages, own.map(|own| (own, 0)));
+    let (first, mut refused) = list(rng, &universe, ages, own.map(|own| (own, 0)))?;
     let rows: Vec<Row> = first.offered.iter().cloned().collect();
     let second = match rng.below(4) {
         0 => {
-            let (second, refused_too) = list(rng, &universe, ages, own.map(|own| (own, 1)));
+            let (second, refused_too) = list(rng, &universe, ages, own.map(|own| (own, 1)))?;
             refused |= refused_too;
             second
         }
         1 => {
             let left = rng.below(rows.len() + 1);
-            again(rng, &universe, &rows[left..], ages)
+            again(rng, &universe, &rows[left..], ages)?
         }
-        _ => again(rng, &universe, &rows, ages),
+        _ => again(rng, &universe, &rows, ages)?,
     };
     if own.is_none_or(|own| own.fair) {
         let against: Vec<&Against> = first.against.union(&second.against).collect();
@@ -226,7 +228,7 @@ fn list(
     universe: &Universe,
     ages: &[u64],
     own: Option<(Own, usize)>,
-) -> (Run, bool) {
+) -> Result<(Run, bool), String> {
     let mut desk = Desk::new(rng.pick(&[1, 3, 16]));
     let mut refused = false;
     for _ in 0..1 + rng.below(5) {
@@ -240,9 +242,12 @@ fn list(
         let mut offer = universe.offer(rng);
         offer.time = universe.soon(rng);
         offer.limits.max_pending_age_ms = rng.pick(ages);
-        refused |= !desk.batch(&offer);
+        if !rng.once_in(4) {
+            offer.clock = desk.clock(offer.clock.max_drift_ms);
+        }
+        refused |= !desk.batch(&offer)?;
     }
-    (desk.run, refused)
+    Ok((desk.run, refused))
 }
 
 /// A row of the author's own, prepared and sealed as it may be; or one that is refused, or where sealings are unfair any.
@@ -284,7 +289,7 @@ fn seal(rng: &mut Rng, universe: &Universe, desk: &mut Desk, own: Own, author: u
 }
 
 /// These rows in another order, some of them twice, over a few batches.
-fn again(rng: &mut Rng, universe: &Universe, rows: &[Row], ages: &[u64]) -> Run {
+fn again(rng: &mut Rng, universe: &Universe, rows: &[Row], ages: &[u64]) -> Result<Run, String> {
     let mut desk = Desk::new(16);
     let mut rows: Vec<BatchRow> = rows.iter().cloned().map(BatchRow::new).collect();
     for _ in 0..rows.len() {
@@ -299,11 +304,13 @@ fn again(rng: &mut Rng, universe: &Universe, rows: &[Row], ages: &[u64]) -> Run 
         let (batch, later) = rest.split_at(1 + rng.below(rest.len()));
         rest = later;
         let limits = Limits::new().with_max_pending_age_ms(rng.pick(ages));
+        let time = universe.soon(rng);
         desk.batch(&Offer {
             limits,
-            time: universe.soon(rng),
+            time,
+            clock: clock(rng, &limits, time, batch),
             rows: batch.to_vec(),
-        });
+        })?;
     }
-    desk.run
+    Ok(desk.run)
 }

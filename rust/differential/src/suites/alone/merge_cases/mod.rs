@@ -1,8 +1,9 @@
-//! Batch calls written by hand: document 01's cases that are run, and its tempting mistakes. Each fails where the
-//! mistake is made.
+//! Batch calls written by hand: document 01's cases that are run, and its tempting mistakes; document 02's folds. Each fails
+//! where the mistake is made.
 
 mod content;
 mod fates;
+mod folds;
 mod limits;
 mod order;
 mod quotas;
@@ -70,6 +71,28 @@ const CASES: &[(&str, Case)] = &[
     ),
     ("settings at their capacity pass", limits::settings),
     ("the report's balance", fates::balance),
+    ("stamps are folded in batch order", folds::in_order),
+    (
+        "duplicates and held rows are folded, released ones not again",
+        folds::every_row,
+    ),
+    ("stamps are folded at the batch's time", folds::at_the_time),
+    (
+        "a fold that 20 stops is counted, and the next goes on",
+        folds::remote_ahead,
+    ),
+    (
+        "a fold that 19 stops is counted, and the next goes on",
+        folds::counter_overflow,
+    ),
+    (
+        "11 by the settings' drift, 20 by the clock's",
+        folds::two_drifts,
+    ),
+    (
+        "an empty batch and a refused one leave the clock",
+        folds::nothing_to_fold,
+    ),
 ];
 
 pub fn run(_: &mut Rng) -> Outcome {
