@@ -16,10 +16,11 @@ appliedOf (applied.Refused r) = refused r
 abbrev pub foldedOf : Folded → delta.Folded
 foldedOf f = record { clock = f .clock; failed = f .failed }
 
--- a fold behind others of which so many failed
+-- 1 where a fold fails
 abbrev pub failure : Answer Unit → ℕ
 failure (done u) = 0
 failure (refused r) = 1
 
+-- one fold behind others of which so many failed
 abbrev pub oneMore : Ends Unit HybridClock → (failed : ℕ) → delta.Folded
 oneMore u failed = record { clock = u .left; failed = failed + failure (u .answer) }
