@@ -10,49 +10,39 @@ use Rattle.merge.proofs.deciding.decide.Lts as lts
 use Rattle.merge.proofs.deciding.decide_rows.Reads as decide-rows-reads
 use Rattle.merge.proofs.deciding.prepare.Reads as prepare-reads
 
--- src/deciding.rt:267:9
 prepare-requires : tie.Need-prepare-requires
 prepare-requires c κs = search needs
 
--- src/deciding.rt:279:27
 enum-known-prepared : tie.Need-enum-known-prepared
 enum-known-prepared c = search needs
 
--- src/deciding.rt:280:27
 enum-known-prepared-2 : tie.Need-enum-known-prepared-2
 enum-known-prepared-2 c = search needs
 
--- src/deciding.rt:280:50
 decide-rows-requires : tie.Need-decide-rows-requires
 decide-rows-requires c κs =
     let at = c .before .before .before .before .before .before .before in
     let args = at .before .before .before .before .before .before .before .before .before .before .args in
     was-ready (areas (now (args .log)) (now (args .held)) (now (args .head))) _ _ _ _ _ _ (at .prepare .result) _ _ (c .before .before .before .prepared2 .given .1) (at .prepare .ensures) .0
 
--- src/deciding.rt:252:1
 same-length : tie.Need-same-length
 same-length c = search needs
 
--- src/deciding.rt:252:1
 same-length-2 : tie.Need-same-length-2
 same-length-2 c = search needs
 
--- src/deciding.rt:252:1
 returns : tie.Need-returns
 returns c =
     let at = c .before .before .before .before .before in
     let args = at .before .before .before .before .before .before .before .before .before .before .args in
     (refuses (areas (now (args .log)) (now (args .held)) (now (args .head))) _ _ _ _ _ _ _ (was-denied (areas (now (args .log)) (now (args .held)) (now (args .head))) _ _ _ _ _ _ (at .prepare .result) _ (c .before .prepared .given .1) (at .prepare .ensures)), tt)
 
--- src/deciding.rt:252:1
 same-length-3 : tie.Need-same-length-3
 same-length-3 c = search needs
 
--- src/deciding.rt:252:1
 same-length-4 : tie.Need-same-length-4
 same-length-4 c = search needs
 
--- src/deciding.rt:252:1
 returns-2 : tie.Need-returns-2
 returns-2 c =
     let at = c .before .before .before .before .before .before in
