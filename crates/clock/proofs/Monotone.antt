@@ -25,7 +25,7 @@ Before a b = (a .l < b .l) ⊎ ((a .l ≡ b .l) × (a .c < b .c))
 abbrev pub UpTo : Hlc → Hlc → Type 0
 UpTo a b = (a .l < b .l) ⊎ ((a .l ≡ b .l) × (a .c ≤ b .c))
 
-pub up-to-before : (a b e : Hlc) → UpTo a b → Before b e → Before a e
+up-to-before : (a b e : Hlc) → UpTo a b → Before b e → Before a e
 up-to-before a b e (inl h) (inl k) = inl (omega arith)
 up-to-before a b e (inl h) (inr k) = inl (omega arith)
 up-to-before a b e (inr h) (inl k) = inl (omega arith)
@@ -159,9 +159,13 @@ issued-at j pt t =
       | inr e ↦ rw e (λ a. let z : _≡_ {A = ℕ} 0 1 = cc in absurd (omega arith))
     ]
 
+-- and is greater than every stamp that the clock has reached
+pub issued-past : (j : HybridClock) (pt : ℕ) (t s : Timestamp) → UpTo (stampHlc s) (hlcOf j) → nowCall j pt .answer ≡ done t → stampLess s t ≡ true
+issued-past j pt t s r a =
+    let b : Before (stampHlc s) (sendEvent (hlcOf j) pt) = up-to-before (stampHlc s) (hlcOf j) (sendEvent (hlcOf j) pt) r (send-rises (hlcOf j) pt) in
+    before-less s t (subst (λ (e : Hlc). Before (stampHlc s) e) (sym (issued-at j pt t a)) b)
+
 pub issued-greater : IssuedGreater
 issued-greater j es pt t a s m =
-    let k : HybridClock = run (record { clock = j; seen = [] }) es .clock in
-    let r : UpTo (stampHlc s) (hlcOf k) = run-keeps (record { clock = j; seen = [] }) es (λ s n. absurd (List·Memᴰ·not-nil n)) s m in
-    let b : Before (stampHlc s) (sendEvent (hlcOf k) pt) = up-to-before (stampHlc s) (hlcOf k) (sendEvent (hlcOf k) pt) r (send-rises (hlcOf k) pt) in
-    before-less s t (subst (λ (e : Hlc). Before (stampHlc s) e) (sym (issued-at k pt t a)) b)
+    let h : History = record { clock = j; seen = [] } in
+    issued-past (run h es .clock) pt t s (run-keeps h es (λ s n. absurd (List·Memᴰ·not-nil n)) s m) a

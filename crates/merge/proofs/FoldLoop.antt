@@ -1,10 +1,9 @@
 -- Folding the stamps of a batch: how many there are, and the loop over them.
-use Prim.Native.Nat.{ℕ, zero, suc, _+_, _-_, _≤_, _<_}
+use Prim.Native.Nat.{ℕ, suc, _+_, _-_, _≤_, _<_}
 use mathlib.Core.Path.{_≡_, sym, _∙_, ap}
 use mathlib.Core.Bool.{true}
-use mathlib.Core.List.{List, [], _∷_, map}
+use mathlib.Core.List.{List, _∷_, map}
 use native.Mathlib.Omega.{arith}
-use lib.Dec.{leb}
 use lib.ListN.{length, getD, length-map}
 use Rattle.error.specs.declared.Refusal.{Refusal}
 use Rattle.error.specs.Answer.{Answer, done, refused, Ends, Got, got, bad}
@@ -13,14 +12,13 @@ use Rattle.clock.specs.declared.hybrid.HybridClock.{HybridClock}
 use Rattle.clock.specs.declared.hybrid.Updated.{Updated}
 use Rattle.clock.specs.declared.hybrid.Updated.the-variants as updated
 use Rattle.clock.specs.Hybrid.{updateCall, updatedOf}
-use Rattle.codec.proofs.ReadSteps.{after-got, need-got}
 use Rattle.row.specs.Reading.{BatchRow, number, readRow}
 use Rattle.merging.specs.Batch.{readRows, readBatch}
 use Rattle.merging.specs.Delta as delta
 use Rattle.merging.specs.Delta.{counted, fold, stampsRead}
 use Rattle.merging.specs.inside.RowStarts.{startOf, pastRow}
 use Rattle.merging.proofs.RowStarts.{start-next}
-use Rattle.merging.proofs.BatchRows.{whole-got}
+use Rattle.merging.proofs.BatchRows.{batch-got}
 use Rattle.working.specs.inside.References.{isRead, arrivedBy}
 use Rattle.working.specs.inside.Looks.{batchRowAt}
 use Rattle.working.proofs.AdmissionLoop.{rowsIn, row-is-read, rest-read}
@@ -32,26 +30,9 @@ use Rattle.merge.specs.declared.folding.Folded.{Folded}
 
 -- ---- how many rows a batch has
 
-length-read : (s : List ℕ) (n at : ℕ) (rows : List BatchRow) (next : ℕ) → readRows s at n ≡ got rows next → length rows ≡ n
-unfolding readRows
-length-read s zero at rows next e =
-    let p : rows ≡ [] = cc in
-    rw p
-length-read s (suc n) at rows next e =
-    let (row, at₁, e₁, e₂) = after-got (readRow s at) _ e in
-    let (rest, at₂, e₃, e₄) = after-got (readRows s at₁ n) _ e₂ in
-    let p : rows ≡ row ∷ rest = cc in
-    rw p (ap suc (length-read s n at₁ rest at₂ e₃))
-
 module _ (s : List ℕ) (b : Readable s) where
   counted-rows : (first : ℕ) × (number s 0 ≡ got (length (b .0)) first)
-  unfolding readBatch
-  counted-rows =
-      let (next, f) = whole-got s _ (b .0) (b .1) in
-      let (n, at, f₁, f₂) = after-got (number s 0) _ f in
-      let (t, f₃) = need-got (leb n 64) _ _ f₂ in
-      let l : length (b .0) ≡ n = length-read s n at (b .0) next f₃ in
-      (at, rw l f₁)
+  counted-rows = let (first, next, e, f) = batch-got s (b .0) (b .1) in (first, e)
 
   pub has-count : (r : Refusal) → number s 0 ≡ bad r → ⊥
   has-count r e = got-not-bad (counted-rows .1) e

@@ -1,19 +1,19 @@
 -- Steps 1 to 3 joined: expiry, admission, draining.
-use Prim.Native.Nat.{ℕ, zero, suc, _+_, _-_, _*_, _≤_}
+use Prim.Native.Nat.{ℕ, _+_, _-_, _*_, _≤_}
 use mathlib.Core.Path.{_≡_, refl, sym, _∙_, ap}
 use mathlib.Core.Bool.{true}
-use mathlib.Core.List.{List, [], _∷_}
+use mathlib.Core.List.{List, []}
 use native.Mathlib.Omega.{arith}
 use lib.ListN.{length}
 use Rattle.error.specs.declared.Refusal.{Refusal}
 use Rattle.error.specs.Answer.{got}
-use Rattle.codec.proofs.ReadSteps.{after-got}
 use Rattle.clock.specs.Vector.{entries, sound}
 use Rattle.clock.specs.Area.{clockAt}
 use Rattle.row.specs.Slots.{slotsAt}
-use Rattle.row.specs.Reading.{BatchRow, readRow}
+use Rattle.row.specs.Reading.{BatchRow}
 use Rattle.merging.specs.Batch.{readRows}
 use Rattle.merging.specs.Merging.{unexpired, admitAll, starting}
+use Rattle.merging.proofs.BatchRows.{read-length}
 use Rattle.working.specs.inside.References.{workRows}
 use Rattle.working.specs.inside.Scratch.{Working, Unexpired, Begun, admittingOf, AdmitsAll, Drains}
 use Rattle.working.specs.declared.Admitting.{Admitting}
@@ -26,18 +26,6 @@ use Rattle.merge.specs.declared.deciding.Settled.the-variants as settled
 use Rattle.merge.proofs.RisingReferences.{length-work, length-slots}
 use Rattle.words.specs.Be.{column}
 use Rattle.merging.specs.inside.RowStarts.{StartsAt}
-
--- as many rows are read as were asked for
-pub read-length : (s : List ℕ) (n at : ℕ) (bs : List BatchRow) (end : ℕ) → readRows s at n ≡ got bs end → length bs ≡ n
-unfolding readRows
-read-length s zero at bs end e =
-    let p : bs ≡ [] = cc in
-    rw p
-read-length s (suc n) at bs end e =
-    let (row, at₁, e₁, e₂) = after-got (readRow s at) _ e in
-    let (rest, at₂, e₃, e₄) = after-got (readRows s at₁ n) _ e₂ in
-    let p : bs ≡ row ∷ rest = cc in
-    rw p (ap suc (read-length s n at₁ rest at₂ e₃))
 
 module _ (held batch head s : List ℕ) (count : ℕ) (starts : List ℕ) (n : ℕ) (needs : SettleNeeds held batch head s count starts n) (cutoff : ℕ) (t : List ℕ) (kept : ℕ)
     (u : (b : List ℕ) (time : ℕ) → Unexpired held b time cutoff (slotsAt held 0 count) t kept) where

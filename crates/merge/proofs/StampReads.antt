@@ -11,6 +11,7 @@ use Rattle.error.specs.Answer.{Got, got, bad}
 use Rattle.clock.specs.declared.stamp.Timestamp.{Timestamp}
 use Rattle.codec.proofs.ReadSteps.{after-got, need-got}
 use Rattle.row.specs.Reading.{Head, number, readHead, readRow}
+use Rattle.row.proofs.ReadRows.{got-value}
 use Rattle.working.specs.inside.References.{isRead}
 use Rattle.working.specs.inside.Looks.{batchRowAt}
 use Rattle.working.proofs.ReferenceRows.{after-read, head-fields}
@@ -21,9 +22,6 @@ got-not-bad {A} {g} {a} {n} {r} e f =
     let q : _≡_ {A = Got A} (got a n) (bad r) = sym e ∙ f in
     let z : _≡_ {A = ℕ} 0 1 = cc in
     omega arith
-
-same-read : {A : Type 0} {a b : A} {n m : ℕ} → _≡_ {A = Got A} (got a n) (got b m) → a ≡ b
-same-read e = cc
 
 abbrev stampBy : (wall counter stamper : ℕ) → Timestamp
 stampBy wall counter stamper = record { «wall_time» = wall; «logical_counter» = counter; «actor_id» = record { 0 = stamper } }
@@ -62,7 +60,7 @@ module _ (s : List ℕ) (at : ℕ) where
         stamper = stamper;
         at₃ = at₃;
         stamper-is = e₃;
-        stamp-is = sym (ap (λ (h : Head). h .stamp) (same-read f₆));
+        stamp-is = sym (ap (λ (h : Head). h .stamp) (got-value f₆));
       }
 
   module _ (t : isRead (readRow s at) ≡ true) where

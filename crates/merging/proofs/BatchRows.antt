@@ -1,48 +1,58 @@
--- The rows that a batch's bytes bring are within capacity, and their outcomes as they may be.
+-- The rows that a batch's bytes bring: where they are read, and what holds of each. They are within capacity, and their outcomes as they may be.
 use Prim.Native.Nat.{ℕ, zero, suc}
-use mathlib.Core.Path.{_≡_}
+use mathlib.Core.Path.{_≡_, ap}
 use mathlib.Core.Logic.{inl, inr}
-use mathlib.Core.List.{List, [], _∷_, List·Memᴰ·not-nil, List·Memᴰ·cases-cons}
-use lib.Dec.{eqb, leb}
+use mathlib.Core.List.{List, [], _∷_, List·Memᴰ, List·Memᴰ·not-nil, List·Memᴰ·cases-cons}
+use lib.Dec.{leb}
 use lib.ListN.{length}
 use Rattle.words.specs.Be.{AllBytes}
-use Rattle.error.specs.Answer.{done, Got, got, bad}
+use Rattle.error.specs.Answer.{done, got}
 use Rattle.codec.proofs.ReadSteps.{after-got, need-got}
 use Rattle.row.specs.Reading.{BatchRow, number, readRow}
 use Rattle.row.proofs.ReadRows.{read-row-ok}
-use Rattle.merging.specs.Batch.{readRows, whole, readBatch}
-use Rattle.merging.proofs.Traces.{not-refused, unless-done}
+use Rattle.merging.specs.Batch.{readRows, readBatch}
+use Rattle.merging.proofs.Traces.{whole-got}
 use Rattle.merging.proofs.RulesKept.{Brings}
 
--- a batch that was read, before its end was tested
-pub whole-got : (s : List ℕ) (g : Got (List BatchRow)) (rows : List BatchRow) → whole s g ≡ done rows → (next : ℕ) × (g ≡ got rows next)
-whole-got s (got r at) rows e =
-    let (t, f) = unless-done (eqb at (length s)) _ _ e in
-    let p : r ≡ rows = cc in
-    (at, rw p)
-whole-got s (bad r) rows e = absurd (not-refused e)
-
-module _ (s : List ℕ) (bytes : AllBytes s) where
-  rows-brought : (n at : ℕ) (rows : List BatchRow) (next : ℕ) → readRows s at n ≡ got rows next → Brings rows
+module _ (s : List ℕ) where
+  -- as many rows are read as were asked for
+  pub read-length : (n at : ℕ) (rows : List BatchRow) (next : ℕ) → readRows s at n ≡ got rows next → length rows ≡ n
   unfolding readRows
-  rows-brought zero at rows next e b m =
+  read-length zero at rows next e =
       let p : rows ≡ [] = cc in
-      absurd (List·Memᴰ·not-nil (rw p at m))
-  rows-brought (suc n) at rows next e b m =
+      rw p
+  read-length (suc n) at rows next e =
       let (row, at₁, e₁, e₂) = after-got (readRow s at) _ e in
       let (rest, at₂, e₃, e₄) = after-got (readRows s at₁ n) _ e₂ in
       let p : rows ≡ row ∷ rest = cc in
-      elim (List·Memᴰ·cases-cons (rw p at m)) [
-        | inl q ↦
-            let k = read-row-ok s bytes at row at₁ e₁ in
-            rw q (k .row, k .outcome)
-        | inr k ↦ rows-brought n at₁ rest at₂ e₃ b k
-      ]
+      rw p (ap suc (read-length n at₁ rest at₂ e₃))
 
-  pub brought : (rows : List BatchRow) → readBatch s ≡ done rows → Brings rows
+  -- a batch that was read: the number of its rows, and behind it these
+  pub batch-got : (rows : List BatchRow) → readBatch s ≡ done rows
+      → (first : ℕ) × (next : ℕ) × (number s 0 ≡ got (length rows) first) × (readRows s first (length rows) ≡ got rows next)
   unfolding readBatch
-  brought rows e =
+  batch-got rows e =
       let (next, f) = whole-got s _ rows e in
-      let (n, at, f₁, f₂) = after-got (number s 0) _ f in
+      let (n, first, f₁, f₂) = after-got (number s 0) _ f in
       let (t, f₃) = need-got (leb n 64) _ _ f₂ in
-      rows-brought n at rows next f₃
+      let l : length rows ≡ n = read-length n first rows next f₃ in
+      (first, next, rw l f₁, rw l f₃)
+
+  -- what holds of every row that can be read holds of each row of a batch
+  module _ (P : BatchRow → Type 0) (holds : (at : ℕ) (b : BatchRow) (next : ℕ) → readRow s at ≡ got b next → P b) where
+    rows-have : (n at : ℕ) (rows : List BatchRow) (next : ℕ) → readRows s at n ≡ got rows next → (b : BatchRow) → List·Memᴰ b rows → P b
+    unfolding readRows
+    rows-have zero at rows next e b m =
+        let p : rows ≡ [] = cc in
+        absurd (List·Memᴰ·not-nil (rw p at m))
+    rows-have (suc n) at rows next e b m =
+        let (row, at₁, e₁, e₂) = after-got (readRow s at) _ e in
+        let (rest, at₂, e₃, e₄) = after-got (readRows s at₁ n) _ e₂ in
+        let p : rows ≡ row ∷ rest = cc in
+        elim (List·Memᴰ·cases-cons (rw p at m)) [ inl q ↦ rw q (holds at row at₁ e₁) | inr k ↦ rows-have n at₁ rest at₂ e₃ b k ]
+
+    pub batch-has : (rows : List BatchRow) → readBatch s ≡ done rows → (b : BatchRow) → List·Memᴰ b rows → P b
+    batch-has rows e = let (first, next, f, g) = batch-got rows e in rows-have (length rows) first rows next g
+
+pub brought : (s : List ℕ) → AllBytes s → (rows : List BatchRow) → readBatch s ≡ done rows → Brings rows
+brought s bytes = batch-has s _ (λ at b next e. let k = read-row-ok s bytes at b next e in (k .row, k .outcome))

@@ -1,6 +1,6 @@
 -- What a batch's stamps do to the hybrid clock (specs/FoldedStamps).
 use Prim.Native.Nat.{suc, _+_, _<_, _≤_, _^_}
-use mathlib.Core.Path.{_≡_, refl, sym, _∙_, ap, subst}
+use mathlib.Core.Path.{_≡_, refl, sym, _∙_, ap}
 use mathlib.Core.Bool.{true}
 use mathlib.Core.List.{List, [], _∷_, map, List·Memᴰ, List·Memᴰ·head, List·Memᴰ·tail, List·Memᴰ·not-nil, List·Memᴰ·cases-cons}
 use mathlib.Core.Logic.{_⊎_, inl, inr}
@@ -15,10 +15,10 @@ use Rattle.error.specs.Answer.{Answer, done, refused}
 use Rattle.clock.specs.declared.stamp.Timestamp.{Timestamp}
 use Rattle.clock.specs.declared.hybrid.HybridClock.{HybridClock}
 use Rattle.clock.specs.Order.{stampLess}
-use Rattle.clock.specs.Hlc.{Hlc, sendEvent, receiveL, receiveC, receiveEvent}
-use Rattle.clock.specs.Hybrid.{hlcOf, stampHlc, stampOfEvent, issueAt, nowCall, receiveAt, updateCall}
+use Rattle.clock.specs.Hlc.{Hlc, receiveL, receiveC, receiveEvent}
+use Rattle.clock.specs.Hybrid.{hlcOf, stampHlc, nowCall, receiveAt, updateCall}
 use Rattle.clock.specs.Monotone.{Event, History, step, run, withRemote}
-use Rattle.clock.proofs.Monotone.{Before, UpTo, send-rises, receive-passes, before-less, Reached, run-keeps, issued-greater, up-to-before, before-up-to}
+use Rattle.clock.proofs.Monotone.{Before, UpTo, before-up-to, receive-passes, Reached, run-keeps, issued-past, issued-greater}
 use Rattle.clock.proofs.HybridLaws.{max-right, max-left, counter-both, counter-remote, counter-none}
 use Rattle.log.specs.Areas.{Areas}
 use Rattle.merging.specs.Batch.{readBatch}
@@ -202,18 +202,6 @@ all-reached j time (t ∷ ts) grow s m near =
     ])
 
 -- and what is issued then is above
-issued-past : (j : HybridClock) (pt : Time) (t s : Timestamp) → UpTo (stampHlc s) (hlcOf j) → nowCall j pt .answer ≡ done t → stampLess s t ≡ true
-unfolding nowCall issueAt
-issued-past j pt t s r =
-    let k : Hlc = sendEvent (hlcOf j) pt in
-    elim (test (ltb (k .c) (2 ^ 32))) [
-      | inl e ↦ rw e (λ a.
-          let q : stampOfEvent j k ≡ t = cc in
-          subst (λ (x : Timestamp). stampLess s x ≡ true) q
-          (before-less s (stampOfEvent j k) (up-to-before (stampHlc s) (hlcOf j) k r (send-rises (hlcOf j) pt))))
-      | inr e ↦ rw e (λ a. absurd (not-refused a))
-    ]
-
 pub issued-above-within : IssuedAboveWithin
 issued-above-within a j c x accepts pt t e s m near =
     let stamps : List Timestamp = stampsRead (readBatch (c .batch)) in

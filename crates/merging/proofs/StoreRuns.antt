@@ -4,7 +4,7 @@ use Prim.Native.Nat.{ℕ, suc, _-_, _≤_, _<_}
 use mathlib.Core.Path.{_≡_, refl, sym, ap}
 use mathlib.Core.Logic.{inl, inr}
 use mathlib.Core.Bool.{Bool, true, false, not}
-use mathlib.Core.List.{List, [], _∷_, _++_, List·Memᴰ, List·Memᴰ·head, List·Memᴰ·tail, List·Memᴰ·not-nil, List·Memᴰ·cases-cons, List·Memᴰ·append-cases, Memᴰ·append-left, Memᴰ·append-right, Memᴰ·cast}
+use mathlib.Core.List.{List, [], _∷_, _++_, List·Memᴰ, List·Memᴰ·not-nil, List·Memᴰ·append-cases, Memᴰ·append-left, Memᴰ·append-right, Memᴰ·cast, Memᴰ·map, Memᴰ·of-map}
 use native.Mathlib.Omega.{arith}
 use lib.Dec.{eqb}
 use borrow.Author.Tests.{eqb-true, eqb-false}
@@ -24,7 +24,7 @@ use Rattle.merging.specs.Merging.{ready, unexpired, Admitted, Drained, s
 use Rattle.merging.specs.Calls.{withFloor}
 use Rattle.merging.specs.Desk.{sealRow}
 use Rattle.merging.specs.Offers.{batchRows, Accepted, Spans, OneContent, count, ListedAfter, Sorted, Within}
-use Rattle.merging.proofs.Traces.{not-refused, then-done, insert-held, merge-went}
+use Rattle.merging.proofs.Traces.{not-refused, each-passes, insert-held, merge-went}
 use Rattle.merging.proofs.CausalListings.{count-none, last-self, last-cases, listed-more}
 use Rattle.merging.proofs.RowLists.{goesBefore, unexpired-all}
 use Rattle.merging.proofs.DrainInduction.{Idle, taken-place, ready-seq, ready-deps, is-ready, settle-every}
@@ -89,16 +89,14 @@ valid-row l time b e =
     }
 
 valid-rows : (l : Limits) (time : ℕ) (rows : List BatchRow) {u : Unit} → validateAll l time rows ≡ done u → (y : Row) → List·Memᴰ y (batchRows rows) → Valid y
-unfolding validateAll batchRows
-valid-rows l time [] e y m = absurd (List·Memᴰ·not-nil m)
-valid-rows l time (b ∷ rows) e y m =
-    let (u, e₁, e₂) = then-done (validate l time b) _ e in
-    elim (List·Memᴰ·cases-cons m) [ inl q ↦ rw q (valid-row l time b e₁) | inr k ↦ valid-rows l time rows e₂ y k ]
+unfolding batchRows
+valid-rows l time rows e y m =
+    let (b, k, q) = Memᴰ·of-map (λ b. b .row) rows m in
+    rw (← q) (valid-row l time b (each-passes l time rows e b k .1))
 
 batch-row : (rows : List BatchRow) (b : BatchRow) → List·Memᴰ b rows → List·Memᴰ (b .row) (batchRows rows)
 unfolding batchRows
-batch-row [] b m = absurd (List·Memᴰ·not-nil m)
-batch-row (x ∷ rows) b m = elim (List·Memᴰ·cases-cons m) [ inl q ↦ List·Memᴰ·head (ap (λ (z : BatchRow). z .row) q) | inr k ↦ List·Memᴰ·tail (batch-row rows b k) ]
+batch-row rows b m = Memᴰ·map (λ b. b .row) m
 
 -- ---- the start
 

@@ -2,18 +2,21 @@
 use Prim.Native.Nat.{ℕ, _+_}
 use mathlib.Core.Path.{_≡_, refl}
 use mathlib.Core.Bool.{Bool, true, false, _&&_}
-use mathlib.Core.List.{List, [], _∷_}
+use mathlib.Core.Logic.{inl, inr}
+use mathlib.Core.List.{List, [], _∷_, List·Memᴰ, List·Memᴰ·not-nil, List·Memᴰ·cases-cons}
 use native.Mathlib.Omega.{arith}
 use lib.ListN.{length}
-use lib.Dec.{leb}
+use lib.Dec.{leb, eqb}
 use borrow.Author.Tests.{leb-true}
 use Rattle.error.specs.declared.Refusal.{Refusal}
-use Rattle.error.specs.Answer.{Answer, done, refused, andThen, unless, nothing, Ends}
+use Rattle.words.specs.Names.{Time}
+use Rattle.error.specs.Answer.{Answer, done, refused, andThen, unless, nothing, Ends, Got, got, bad}
 use Rattle.clock.specs.declared.hybrid.HybridClock.{HybridClock}
 use Rattle.row.specs.Rows.{Row}
+use Rattle.row.specs.Reading.{BatchRow}
 use Rattle.log.specs.Store.{Store}
 use Rattle.log.specs.Areas.{Areas, readStore}
-use Rattle.merging.specs.Batch.{limitsOk, readBatch, validateAll}
+use Rattle.merging.specs.Batch.{Limits, limitsOk, whole, readBatch, validate, validateAll}
 use Rattle.merging.specs.Merging.{admitAll, quotas, Merged, commit, settle, finish, merge}
 use Rattle.merging.specs.Calls.{BatchCall, roomFor, batchAnswer, batchEnds}
 use Rattle.merging.specs.Delta.{DeltaReport, DeltaLeft, deltaEnds}
@@ -33,6 +36,23 @@ unless-done false r x e = absurd (not-refused e)
 pub then-done : {A B : Type 0} (x : Answer A) (f : A → Answer B) {b : B} → andThen x f ≡ done b → (a : A) × (x ≡ done a) × (f a ≡ done b)
 then-done (done a) f e = (a, refl, e)
 then-done (refused r) f e = absurd (not-refused e)
+
+-- what was read, before its end was tested
+pub whole-got : {A : Type 0} (s : List ℕ) (g : Got A) (a : A) → whole s g ≡ done a → (next : ℕ) × (g ≡ got a next)
+whole-got s (got x at) a e =
+    let (t, f) = unless-done (eqb at (length s)) _ _ e in
+    let p : x ≡ a = cc in
+    (at, rw p)
+whole-got s (bad r) a e = absurd (not-refused e)
+
+-- where all rows pass, each does
+pub each-passes : (l : Limits) (time : Time) (rows : List BatchRow) {u : Unit} → validateAll l time rows ≡ done u
+    → (b : BatchRow) → List·Memᴰ b rows → (v : Unit) × (validate l time b ≡ done v)
+unfolding validateAll
+each-passes l time [] e b m = absurd (List·Memᴰ·not-nil m)
+each-passes l time (x ∷ rows) e b m =
+    let (v, e₁, e₂) = then-done (validate l time x) _ e in
+    elim (List·Memᴰ·cases-cons m) [ inl q ↦ (v, rw q e₁) | inr k ↦ each-passes l time rows e₂ b k ]
 
 both : (a b : Bool) → a && b ≡ true → (a ≡ true) × (b ≡ true)
 both true b e = (refl, e)
