@@ -47,6 +47,13 @@ impl Rng {
         from[self.below(from.len())]
     }
 
+    /// Brings items into any order.
+    pub fn shuffle<T>(&mut self, items: &mut [T]) {
+        for i in 1..items.len() {
+            items.swap(i, self.below(i + 1));
+        }
+    }
+
     /// True once in `n` times.
     pub fn once_in(&mut self, n: usize) -> bool {
         self.below(n) == 0

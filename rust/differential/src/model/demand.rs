@@ -2,14 +2,25 @@
 
 use std::collections::{BTreeMap, BTreeSet};
 
+use cuwelfra_sys::Told;
+
+use crate::model::own::{row_of, seal_call};
+use crate::port::batches::Offer;
+use crate::port::own::Sealing;
 use crate::port::rows::Row;
 use crate::port::store::{self, Areas, Content, Entries};
 
 /// A store after its call list.
 pub struct Run {
     pub areas: Areas,
+    pub offers: Offers,
+}
+
+/// What a call list offered to its store.
+#[derive(Clone, Default)]
+pub struct Offers {
     /// The rows of accepted batches and sealings.
-    pub offered: BTreeSet<Row>,
+    pub rows: BTreeSet<Row>,
     /// Time and pending age of accepted batches.
     pub times: Vec<(u64, u64)>,
     /// What is against its accepted sealings.
@@ -56,9 +67,30 @@ pub fn against(clock: &Entries, before: &BTreeSet<Row>, row: &Row) -> BTreeSet<A
     held.map(|(what, _)| what).collect()
 }
 
-impl Run {
+impl Offers {
+    /// Takes an accepted batch in.
+    pub fn batch(&mut self, offer: &Offer) {
+        let rows = offer.rows.iter().map(|lent| lent.row.clone());
+        self.rows.extend(rows);
+        self.times
+            .push((offer.time, offer.limits.max_pending_age_ms));
+    }
+
+    /// Takes an accepted sealing of a row in, with what is against it by the clock before it.
+    pub fn sealing(&mut self, clock: &Entries, row: Row) {
+        self.against.extend(against(clock, &self.rows, &row));
+        self.rows.insert(row);
+        self.sealed += 1;
+    }
+
+    /// Whether a sealing may stand in the list of this store: nothing is against it, or it is refused.
+    pub fn may_stand(&self, areas: &Areas, lent: &Sealing) -> bool {
+        let fair = |row: Row| against(&areas.clock(), &self.rows, &row).is_empty();
+        row_of(lent).is_none_or(fair) || seal_call(areas, lent).0 != Told::default()
+    }
+
     /// Whether the times of accepted batches span at most the least pending age among them.
-    fn in_time(&self) -> bool {
+    pub fn in_time(&self) -> bool {
         let times = self.times.iter().map(|(time, _)| *time);
         let age = self.times.iter().map(|(_, age)| *age).min();
         match (times.clone().min(), times.max(), age) {
@@ -69,32 +101,32 @@ impl Run {
 }
 
 /// Whether no author and sequence was offered with two contents, in one store or across both.
-pub fn one_content(first: &Run, second: &Run) -> bool {
-    let rows: BTreeSet<&Row> = first.offered.union(&second.offered).collect();
+pub fn one_content(first: &Offers, second: &Offers) -> bool {
+    let rows: BTreeSet<&Row> = first.rows.union(&second.rows).collect();
     let ids: BTreeSet<_> = rows.iter().map(|row| (row.author, row.seq)).collect();
     ids.len() == rows.len()
 }
 
 /// Whether nothing that was accepted could expire.
-pub fn in_time(first: &Run, second: &Run) -> bool {
+pub fn in_time(first: &Offers, second: &Offers) -> bool {
     first.in_time() && second.in_time()
 }
 
-/// The rows that end a causal listing of offered rows: each is its author's next number from 1, each dependency is at
-/// most the number of that author's rows before it.
-fn listed(offered: &BTreeSet<Row>) -> BTreeSet<&Row> {
-    let mut listed = BTreeSet::new();
-    let mut counts = Entries::new();
+/// A causal listing of rows behind a clock: each is its author's next number, each dependency is at most the number of that
+/// author's rows before it. No other row of them can follow.
+pub fn listing<'a>(clock: &Entries, rows: &[&'a Row]) -> Vec<&'a Row> {
+    let mut listing = Vec::new();
+    let mut counts = clock.clone();
     loop {
         let count = |author: u64| counts.get(&author).copied().unwrap_or(0);
-        let next = offered.iter().find(|row| {
+        let next = rows.iter().find(|row| {
             row.seq.checked_sub(1) == Some(count(row.author))
                 && row.deps.iter().all(|(on, number)| *number <= count(*on))
         });
         let Some(row) = next else {
-            return listed;
+            return listing;
         };
-        listed.insert(row);
+        listing.push(*row);
         counts.insert(row.author, row.seq);
     }
 }
@@ -103,25 +135,31 @@ fn listed(offered: &BTreeSet<Row>) -> BTreeSet<&Row> {
 pub fn check(first: &Run, second: &Run) -> Result<(), &'static str> {
     let one = alone(first)?;
     let other = alone(second)?;
-    if second.offered.is_subset(&first.offered) {
+    let (less, more) = (&first.offers.rows, &second.offers.rows);
+    if more.is_subset(less) {
         sublist(&other.rows, &one.rows)?;
     }
-    if first.offered.is_subset(&second.offered) {
+    if less.is_subset(more) {
         sublist(&one.rows, &other.rows)?;
     }
-    if first.offered == second.offered {
-        require(one.rows == other.rows, "equal offers, equal logs")?;
-        require(one.clock == other.clock, "equal offers, equal clocks")?;
-        let held = held(&one).eq(held(&other));
-        require(held, "equal offers, equal held rows")?;
+    if less == more {
+        equal(&one, &other)?;
     }
     Ok(())
+}
+
+/// Equal logs, clocks and held rows. 01: "Arrival times and outcomes of held rows are not compared."
+pub fn equal(one: &Content, other: &Content) -> Result<(), &'static str> {
+    require(one.rows == other.rows, "equal logs")?;
+    require(one.clock == other.clock, "equal clocks")?;
+    require(held(one).eq(held(other)), "equal held rows")
 }
 
 fn alone(run: &Run) -> Result<Content, &'static str> {
     let content = store::read(&run.areas).ok_or("the store keeps the rules")?;
     let logged: BTreeSet<&Row> = content.rows.iter().collect();
-    let ends = listed(&run.offered);
+    let offered: Vec<&Row> = run.offers.rows.iter().collect();
+    let ends = listing(&Entries::new(), &offered).into_iter().collect();
     require(logged == ends, "the log has what ends a causal listing")?;
     require(
         logged.len() == content.rows.len(),
@@ -132,7 +170,7 @@ fn alone(run: &Run) -> Result<Content, &'static str> {
         *counts.entry(row.author).or_default() += 1;
     }
     require(content.clock == counts, "the clock counts the log's rows")?;
-    let waiting = run.offered.iter().filter(|row| !logged.contains(row));
+    let waiting = run.offers.rows.iter().filter(|row| !logged.contains(row));
     let mut waiting: Vec<&Row> = waiting.collect();
     waiting.sort_by_key(|row| row.key());
     let all = held(&content).eq(waiting);
@@ -140,17 +178,18 @@ fn alone(run: &Run) -> Result<Content, &'static str> {
     Ok(content)
 }
 
-fn held(content: &Content) -> impl Iterator<Item = &Row> {
+/// The held rows in their order.
+pub fn held(content: &Content) -> impl Iterator<Item = &Row> {
     content.held.iter().map(|held| &held.row)
 }
 
-/// More offers give more log, in the same relative order.
-fn sublist(less: &[Row], more: &[Row]) -> Result<(), &'static str> {
+/// Every row of the one log is in the other, in the same relative order.
+pub fn sublist(less: &[Row], more: &[Row]) -> Result<(), &'static str> {
     let mut rest = more.iter();
     let found = less.iter().all(|row| rest.any(|other| other == row));
-    require(found, "more offers, more log in the same order")
+    require(found, "more log in the same relative order")
 }
 
-fn require(holds: bool, part: &'static str) -> Result<(), &'static str> {
+pub fn require(holds: bool, part: &'static str) -> Result<(), &'static str> {
     holds.then_some(()).ok_or(part)
 }

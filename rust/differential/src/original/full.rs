@@ -66,7 +66,7 @@ impl Full {
         let removed = rng.pick(&[0, 0, 1, 40, 300]);
         let mut rows = self.rows(rng, removed + logged);
         if rng.once_in(3) {
-            shuffle(rng, &mut rows);
+            rng.shuffle(&mut rows);
         }
         let mut compacted = Entries::new();
         for author in &self.world.authors {
@@ -178,10 +178,4 @@ pub fn near_clock(rng: &mut Rng, clock: &Entries) -> Entries {
         }
     }
     near
-}
-
-fn shuffle(rng: &mut Rng, rows: &mut [Row]) {
-    for i in 1..rows.len() {
-        rows.swap(i, rng.below(i + 1));
-    }
 }

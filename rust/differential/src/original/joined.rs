@@ -18,6 +18,7 @@ use crate::port::wrapped::{self, refusal, wrapped_stamp};
 use crate::rng::Rng;
 use crate::support::{agree, Check};
 
+#[derive(Clone)]
 pub struct Joined {
     pub original: Original,
     /// Lent to the port.
@@ -119,8 +120,21 @@ impl Joined {
     }
 
     /// Prepares a row of this desk itself with the author, wall time, payload and signature of this one, and seals it; the
-    /// original inserts it. The hybrid clock is at the latest watermark.
+    /// original inserts it.
     pub fn own(&mut self, row: &Row, issued: u64) -> Result<Told, String> {
+        let (told, bytes) = self.prepare(row, issued)?;
+        match told == Told::default() {
+            true => self.seal(&Sealing {
+                bytes,
+                signature: row.signature.clone(),
+            }),
+            false => Ok(told),
+        }
+    }
+
+    /// Prepares a row of this desk itself with the author, wall time and payload of this one. The hybrid clock is at the
+    /// latest watermark.
+    pub fn prepare(&self, row: &Row, issued: u64) -> Result<(Told, Vec<u8>), String> {
         let content = self.original.content();
         let last = content.marks.values().max().copied().unwrap_or_default();
         let lent = Preparing {
@@ -138,13 +152,7 @@ impl Joined {
         };
         let (told, bytes) = prepare_call(&lent);
         same_prepare(&lent, &told, &bytes)?;
-        match told.told == Told::default() {
-            true => self.seal(&Sealing {
-                bytes,
-                signature: row.signature.clone(),
-            }),
-            false => Ok(told.told),
-        }
+        Ok((told.told, bytes))
     }
 
     /// Seals a row; the original inserts it where the model accepts it.

@@ -82,6 +82,7 @@ cfg_if! {
             pub mod peer_pending;
             pub mod full_size;
             pub mod call_lists;
+            pub mod expiring;
             pub mod replica;
             pub mod desk;
             pub mod differences;
@@ -94,7 +95,8 @@ pub fn all() -> impl Iterator<Item = &'static Suite> {
 }
 
 /// The suites that run longest, in falling order.
-pub const LONGEST: [&str; 11] = [
+pub const LONGEST: [&str; 12] = [
+    "expiring",
     "call-lists",
     "full-size",
     "replica",

@@ -157,27 +157,39 @@ impl Universe {
 
     /// A batch call of any kind; one in eight has faulty rows.
     pub fn offer(&self, rng: &mut Rng) -> Offer {
-        let mut offer = Offer {
-            limits: limits(rng),
-            time: self.time(rng),
-            clock: FRESH,
-            rows: self.batch(rng),
-        };
-        if rng.once_in(8) {
-            for _ in 0..1 + rng.below(2) {
-                spoil(rng, &mut offer);
-            }
-        }
-        offer.clock = clock(rng, &offer.limits, offer.time, &offer.rows);
-        offer
+        let (limits, time) = (limits(rng), self.time(rng));
+        let rows = self.batch(rng);
+        offer(rng, limits, time, rows)
     }
 
     /// Some rows in any order, with repeats.
     pub fn batch(&self, rng: &mut Rng) -> Vec<BatchRow> {
-        let count = rng.pick(&[0, 1, 2, 3, 4, 6, 8]);
-        let mut row = || self.rows[rng.below(self.rows.len())].clone();
-        (0..count).map(|_| BatchRow::new(row())).collect()
+        batch(rng, &self.rows)
     }
+}
+
+/// Some of these rows in any order, with repeats.
+pub fn batch(rng: &mut Rng, rows: &[Row]) -> Vec<BatchRow> {
+    let count = rng.pick(&[0, 1, 2, 3, 4, 6, 8]);
+    let mut row = || rows[rng.below(rows.len())].clone();
+    (0..count).map(|_| BatchRow::new(row())).collect()
+}
+
+/// A batch call with any clock; one in eight has faulty rows.
+pub fn offer(rng: &mut Rng, limits: Limits, time: u64, rows: Vec<BatchRow>) -> Offer {
+    let mut offer = Offer {
+        limits,
+        time,
+        clock: FRESH,
+        rows,
+    };
+    if rng.once_in(8) {
+        for _ in 0..1 + rng.below(2) {
+            spoil(rng, &mut offer);
+        }
+    }
+    offer.clock = clock(rng, &offer.limits, offer.time, &offer.rows);
+    offer
 }
 
 /// Two batches of 64: rows of so many authors that all wait for author 1's first, which comes last.
@@ -206,7 +218,7 @@ pub fn gated(rng: &mut Rng, authors: u64) -> [Offer; 2] {
 }
 
 /// Settings, most of which are wide.
-fn limits(rng: &mut Rng) -> Limits {
+pub fn limits(rng: &mut Rng) -> Limits {
     let mut setting = |wide: &[u64], tight: &[u64]| {
         let from = if rng.once_in(14) { tight } else { wide };
         rng.pick(from)

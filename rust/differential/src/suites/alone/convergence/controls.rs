@@ -10,8 +10,9 @@ use crate::model::demand::{check, Against, Run};
 use crate::port::batches::{unsigned, BatchRow, Offer, FRESH};
 use crate::port::desk::row;
 use crate::port::own::Sealing;
-use crate::suites::alone::convergence::desk::{Desk, Entry};
+use crate::suites::alone::convergence::desk::Desk;
 use crate::support::{agree, Check, Outcome};
+use crate::world::own::Entry;
 
 /// What is left out of the condition, what is then against the sealing, and the list.
 type Control = (&'static str, Against, fn() -> Run);
@@ -42,7 +43,7 @@ const CONTROLS: [Control; 4] = [
 pub fn run() -> Outcome {
     for (what, against, list) in CONTROLS {
         let (run, again) = (list(), list());
-        agree(&run.sealed, &1, || format!("{what}: a sealing"))?;
+        agree(&run.offers.sealed, &1, || format!("{what}: a sealing"))?;
         same_against(&run, &[against], what)?;
         let broken = check(&run, &again).is_err();
         agree(&broken, &true, || {
@@ -82,7 +83,7 @@ fn it() -> Outcome {
 }
 
 fn same_against(run: &Run, wanted: &[Against], what: &str) -> Check {
-    let found: Vec<Against> = run.against.iter().copied().collect();
+    let found: Vec<Against> = run.offers.against.iter().copied().collect();
     agree(&&found[..], &wanted, || format!("{what}: against it"))
 }
 
@@ -97,7 +98,9 @@ fn fair() -> Outcome {
             desk.run
         };
         let run = list();
-        agree(&run.against.is_empty(), &true, || "a fair sealing".into())?;
+        agree(&run.offers.against.is_empty(), &true, || {
+            "a fair sealing".into()
+        })?;
         agree(&check(&run, &list()), &Ok(()), || "demand 3".into())?;
     }
     Ok(2)

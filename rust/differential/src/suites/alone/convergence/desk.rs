@@ -1,19 +1,18 @@
 //! A store that starts empty, its hybrid clock, and what it was offered.
 
-use std::collections::BTreeSet;
-
 use cuwelfra_sys::{self as sys, HybridParts, Preparation, PreparedTold, Told};
 
-use crate::model::demand::{against, Run};
+use crate::model::demand::{Offers, Run};
 use crate::model::folding::same_clock;
-use crate::model::own::{row_of, seal_call};
+use crate::model::own::row_of;
 use crate::port::area::{self, word, BYTES};
 use crate::port::batches::{Offer, FRESH};
 use crate::port::lending::{call, Lent};
 use crate::port::own::{prepare, seal, Preparing, Sealing};
 use crate::port::rows::{Row, Stamp};
-use crate::port::store::{Areas, Entries, CLOCK};
+use crate::port::store::Areas;
 use crate::support::accepted;
+use crate::world::own::Entry;
 
 pub struct Desk {
     pub run: Run,
@@ -21,26 +20,12 @@ pub struct Desk {
     clock: HybridParts,
 }
 
-/// How a row of its own comes about.
-#[derive(Clone, Copy, Debug)]
-pub struct Entry<'a> {
-    pub author: u64,
-    pub time: u64,
-    pub payload: &'a [u8],
-    /// How far the number last issued is above the author's number in the log's clock.
-    pub ahead: u64,
-}
-
 impl Desk {
     pub fn new(capacity: usize) -> Self {
         Self {
             run: Run {
                 areas: Areas::new(capacity, 0),
-                offered: BTreeSet::new(),
-                times: Vec::new(),
-                against: BTreeSet::new(),
-                sealed: 0,
-                refused: 0,
+                offers: Offers::default(),
             },
             clock: FRESH,
         }
@@ -65,13 +50,9 @@ impl Desk {
             self.clock.last_wall = told.last_wall;
             self.clock.last_counter = told.last_counter as u32;
         }
-        let run = &mut self.run;
         let accepted = told.told == Told::default();
         if accepted {
-            let rows = offer.rows.iter().map(|lent| lent.row.clone());
-            run.offered.extend(rows);
-            run.times
-                .push((offer.time, offer.limits.max_pending_age_ms));
+            self.run.offers.batch(offer);
         }
         Ok(accepted)
     }
@@ -80,11 +61,6 @@ impl Desk {
         let areas = &mut self.run.areas;
         let told = sys::set_floor(&areas.log, &areas.held, &mut areas.head, stamp);
         assert_eq!(told, Told::default(), "a sound store");
-    }
-
-    /// The log's clock.
-    fn log_clock(&self) -> Entries {
-        area::entries(&self.run.areas.head[8 * CLOCK..]).collect()
     }
 
     /// Prepares a row of its own; the clock moves on. `None` where it is refused.
@@ -113,23 +89,19 @@ impl Desk {
 
     /// Whether a sealing may stand: nothing is against it, or it is refused.
     pub fn may_stand(&self, lent: &Sealing) -> bool {
-        let row = row_of(lent);
-        let fair = |row: Row| against(&self.log_clock(), &self.run.offered, &row).is_empty();
-        row.is_none_or(fair) || seal_call(&self.run.areas, lent).0 != Told::default()
+        self.run.offers.may_stand(&self.run.areas, lent)
     }
 
     /// Seals; an accepted row counts as offered, and what is against it is noted.
     pub fn seal(&mut self, lent: &Sealing) -> Option<Row> {
-        let clock = self.log_clock();
-        if seal(&mut self.run.areas, lent) != Told::default() {
-            self.run.refused += 1;
+        let Run { areas, offers } = &mut self.run;
+        let clock = areas.clock();
+        if seal(areas, lent) != Told::default() {
+            offers.refused += 1;
             return None;
         }
         let row = row_of(lent).expect("a row that was sealed");
-        let run = &mut self.run;
-        run.against.extend(against(&clock, &run.offered, &row));
-        run.offered.insert(row.clone());
-        run.sealed += 1;
+        offers.sealing(&clock, row.clone());
         Some(row)
     }
 }

@@ -6,16 +6,16 @@ mod desk;
 
 use cuwelfra::Limits;
 
-use self::desk::{Desk, Entry};
+use self::desk::Desk;
 use crate::model::demand::{check, in_time, one_content, Against, Run};
-use crate::port::batches::{put_varint, unsigned, BatchRow, Offer};
-use crate::port::own::Sealing;
+use crate::port::batches::{BatchRow, Offer};
 use crate::port::rows::Row;
 use crate::port::store;
 use crate::rng::Rng;
 use crate::support::{agree, note, Check, Outcome};
 use crate::world::clocks::clock;
 use crate::world::lists::Universe;
+use crate::world::own::{payload, sealing, Entry, Own};
 
 const PAIRS: u64 = 100_000;
 
@@ -85,30 +85,6 @@ pub fn run(rng: &mut Rng) -> Outcome {
     Ok(kinds.fair() + controls::run()?)
 }
 
-/// The stores' own authors, and whether their sealings are fair.
-#[derive(Clone, Copy)]
-struct Own {
-    authors: [u64; 2],
-    fair: bool,
-}
-
-impl Own {
-    /// Two authors who offer nothing else. One of them may be one that others depend on; where sealings are unfair, later
-    /// rows of it may be offered.
-    fn new(rng: &mut Rng, universe: &mut Universe, fair: bool) -> Self {
-        let mut authors = [5, 6];
-        let one = rng.pick(&universe.authors);
-        let others = universe.rows.iter().any(|row| row.author != one);
-        if others && (!fair || rng.once_in(2)) {
-            let later = !fair && rng.once_in(2);
-            let stays = |row: &Row| row.author != one || later && row.seq > 1;
-            universe.rows.retain(stays);
-            authors[if fair { rng.below(2) } else { 0 }] = one;
-        }
-        Self { authors, fair }
-    }
-}
-
 fn pair(rng: &mut Rng, kinds: &mut Kinds) -> Check {
     let kind = rng.below(8);
     let ages: &[u64] = if kind == 0 {
@@ -123,7 +99,7 @@ fn pair(rng: &mut Rng, kinds: &mut Kinds) -> Check {
     }
     let own = (rng.below(3) > 0).then(|| Own::new(rng, &mut universe, kind != 2));
     let (first, mut refused) = list(rng, &universe, ages, own.map(|own| (own, 0)))?;
-    let rows: Vec<Row> = first.offered.iter().cloned().collect();
+    let rows: Vec<Row> = first.offers.rows.iter().cloned().collect();
     let second = match rng.below(4) {
         0 => {
             let (second, refused_too) = list(rng, &universe, ages, own.map(|own| (own, 1)))?;
@@ -137,20 +113,20 @@ fn pair(rng: &mut Rng, kinds: &mut Kinds) -> Check {
         _ => again(rng, &universe, &rows, ages)?,
     };
     if own.is_none_or(|own| own.fair) {
-        let against: Vec<&Against> = first.against.union(&second.against).collect();
+        let against: Vec<&Against> = first.offers.against.union(&second.offers.against).collect();
         agree(&against, &Vec::new(), || {
-            let offers = [&first.offered, &second.offered];
+            let offers = [&first.offers.rows, &second.offers.rows];
             format!("against sealings that were made fair, offers {offers:02x?}")
         })?;
     }
     let holds = check(&first, &second);
     let failed = u64::from(holds.is_err());
-    if !one_content(&first, &second) {
+    if !one_content(&first.offers, &second.offers) {
         kinds.conflicting += 1;
         kinds.conflicting_fail += failed;
         return Ok(());
     }
-    if !in_time(&first, &second) {
+    if !in_time(&first.offers, &second.offers) {
         kinds.expiring += 1;
         kinds.expiring_fail += failed;
         return Ok(());
@@ -161,15 +137,15 @@ fn pair(rng: &mut Rng, kinds: &mut Kinds) -> Check {
     kinds.refused += u64::from(refused);
     kinds.sealings(&first, &second);
     match (
-        first.offered.is_subset(&second.offered),
-        second.offered.is_subset(&first.offered),
+        first.offers.rows.is_subset(&second.offers.rows),
+        second.offers.rows.is_subset(&first.offers.rows),
     ) {
         (true, true) => kinds.equal += 1,
         (false, false) => kinds.others += 1,
         _ => kinds.more += 1,
     }
     agree(&holds, &Ok(()), || {
-        let offers = [&first.offered, &second.offered];
+        let offers = [&first.offers.rows, &second.offers.rows];
         let stores = [&first, &second].map(|run| store::read(&run.areas));
         format!("offers {offers:02x?}, the stores {stores:02x?}")
     })
@@ -188,7 +164,7 @@ impl Kinds {
 
     /// Whether something is against a sealing; the pair is counted then.
     fn unfair(&mut self, first: &Run, second: &Run, failed: u64) -> Result<bool, String> {
-        let all: Vec<&Against> = first.against.union(&second.against).collect();
+        let all: Vec<&Against> = first.offers.against.union(&second.offers.against).collect();
         let place = match all[..] {
             [] => return Ok(false),
             [one] => ALONE.iter().position(|(alone, _)| alone == one),
@@ -214,11 +190,12 @@ impl Kinds {
     }
 
     fn sealings(&mut self, first: &Run, second: &Run) {
-        let sealed = [first, second].map(|run| run.sealed > 0);
+        let sealed = [first, second].map(|run| run.offers.sealed > 0);
         self.sealed += u64::from(sealed.contains(&true));
         self.sealed_both += u64::from(!sealed.contains(&false));
-        self.sealed_refused += u64::from(first.refused + second.refused > 0);
-        self.sealed_equal += u64::from(sealed.contains(&true) && first.offered == second.offered);
+        self.sealed_refused += u64::from(first.offers.refused + second.offers.refused > 0);
+        self.sealed_equal +=
+            u64::from(sealed.contains(&true) && first.offers.rows == second.offers.rows);
     }
 }
 
@@ -252,33 +229,16 @@ fn list(
 
 /// A row of the author's own, prepared and sealed as it may be; or one that is refused, or where sealings are unfair any.
 fn seal(rng: &mut Rng, universe: &Universe, desk: &mut Desk, own: Own, author: u64) {
-    let ahead = match own.fair || !rng.once_in(6) {
-        true => 0,
-        false => 1 + rng.next() % 2,
-    };
-    let payload: &[u8] = rng.pick(&[&[], &[1], &[3, 4]]);
     let entry = Entry {
         author,
+        ahead: own.ahead(rng),
+        payload: payload(rng),
         time: universe.soon(rng),
-        payload,
-        ahead,
     };
     let Some(bytes) = desk.prepare(entry) else {
         return;
     };
-    let signature: &[u8] = rng.pick(&[&[], &[9], &[7; 64], &[7; 65]]);
-    let mut lent = Sealing {
-        bytes,
-        signature: signature.to_vec(),
-    };
-    match rng.below(8) {
-        // Cut short, or longer.
-        0 => drop(lent.bytes.pop()),
-        1 => put_varint(&mut lent.bytes, 0),
-        // Made up by hand.
-        2 => lent.bytes = unsigned(&universe.rows[rng.below(universe.rows.len())]),
-        _ => {}
-    }
+    let lent = sealing(rng, universe, bytes);
     if !own.fair || desk.may_stand(&lent) {
         desk.seal(&lent);
         // Once more: the author's number has moved.
