@@ -78,6 +78,22 @@ module _ (clock : List (ℕ × ℕ)) (time : ℕ) where
         | false ↦ λ t e. admits-known a b r (look (b .row) (a .working)) (looked (b .row) (a .working)) (leb-false _ _ t) e
       ]) refl
 
+  -- where working rows of its author and sequence have its content, a row is admitted
+  pub admits-same : (a : Admitted) (b : BatchRow)
+      → ((h : HeldRow) → List·Memᴰ h (a .working) → b .row .author ≡ h .row .author → b .row .seq ≡ h .row .seq → sameContent (h .row) (b .row) ≡ true)
+      → (r : Admitted) × (admit clock time a b ≡ done r)
+  unfolding admit whenKnown
+  admits-same a b same =
+      elim (leb (b .row .seq) (get clock (b .row .author))) as
+      (λ t. (r : Admitted) × (pick t (done (duplicate a)) (whenKnown (look (b .row) (a .working)) time b a) ≡ done r)) [
+        | true ↦ (duplicate a, refl)
+        | false ↦ by-known (look (b .row) (a .working)) (looked (b .row) (a .working))
+      ]
+    where
+      by-known : (k : Known) → Looked (b .row) (a .working) k → (r : Admitted) × (whenKnown k time b a ≡ done r)
+      by-known absent (unseen f) = (_, refl)
+      by-known (present h) (seen m p q) = (duplicate a, rw (same h m p q))
+
   -- what holds of the rows admitted so far and the working rows, and is kept by each row, holds of the whole batch
   module _ (P : List Row → List HeldRow → Type 0) (all : List BatchRow)
       (step : (p : List Row) (a : Admitted) (b : BatchRow) (r : Admitted) → List·Memᴰ b all → Admits clock time a b r → P p (a .working)

@@ -34,7 +34,7 @@ use Rattle.merging.proofs.StoreRuns.{accepting, Run}
 module _ (a : Areas) (s : Store) (holds : readStore a ≡ done s) where
   -- after an accepted batch the merged store keeps the rules and fits
   module _ (c : BatchCall) (m : Merged) (now : c .time < 2 ^ 64) (bytes : AllBytes (c .batch)) (w : Answered a c m) where
-    merges-here : merge (capacity (a .log)) (c .limits) (c .time) s (w .rows) ≡ done m
+    pub merges-here : merge (capacity (a .log)) (c .limits) (c .time) s (w .rows) ≡ done m
     merges-here =
         let p : w .store ≡ s = cc (w .reads) in
         rw p at (w .merges)

@@ -2,6 +2,7 @@
 -- store as values and the calls' bytes. So does whether its sealings may stand.
 use Prim.Native.Nat.{ℕ, _+_, _<_, _^_}
 use mathlib.Core.Path.{_≡_, refl, sym, _∙_, ap}
+use mathlib.Core.Bool.{Bool, true, false}
 use mathlib.Core.List.{List, [], _∷_, _++_, append-nil, List·Memᴰ·head, List·Memᴰ·tail, List·Memᴰ·not-nil, List·Memᴰ·cases-cons}
 use mathlib.Core.Logic.{inl, inr}
 use lib.ListN.{length}
@@ -10,6 +11,7 @@ use Rattle.error.specs.declared.Refusal.{Refusal}
 use Rattle.error.specs.declared.Refusal.the-variants.{OverCapacity, ShortArea}
 use Rattle.error.specs.Answer.{Answer, done, refused, nothing, andThen, unless}
 use Rattle.clock.specs.declared.stamp.Timestamp.{Timestamp}
+use Rattle.clock.proofs.LexicographicOrder.{clash}
 use Rattle.clock.specs.declared.hybrid.HybridClock.{HybridClock}
 use Rattle.row.specs.Rows.{Row}
 use Rattle.log.specs.Store.{Store}
@@ -17,7 +19,7 @@ use Rattle.log.specs.Areas.{Areas, capacity, readStore, leave}
 use Rattle.merging.specs.Batch.{limitsOk, readBatch}
 use Rattle.merging.specs.Merging.{Merged, merge}
 use Rattle.merging.specs.Calls.{BatchCall, roomFor, batchAnswer, batchEnds, batchCall, withFloor, setFloorCall}
-use Rattle.merging.specs.Delta.{deltaEnds, deltaCall}
+use Rattle.merging.specs.Delta.{DeltaReport, deltaEnds, deltaCall}
 use Rattle.merging.specs.Desk.{readSealed, sealRow, sealAnswer, sealCall}
 use Rattle.merging.specs.Offers.{Call, AllGiven, afterCall, runCalls, rowsRead, rowRead, whenAccepted, offeredBy, offered, Accepted, acceptedBy, accepted, MayStand, AllMayStand}
 use Rattle.merging.proofs.Traces.{call-answered, endsBy}
@@ -120,6 +122,20 @@ module _ (cap : ℕ) (cs : List Call)
         offers = rw (offered-is _ e, after-is _ e) (ap (λ (rows : List Row). rowsRead (readBatch (c .batch)) ++ rows) (t .offers));
         accepts = rw (accepted-is _ e, after-is _ e) (ap (λ (xs : List Accepted). accepting (c .time) (c .limits) ∷ xs) (t .accepts));
       }
+
+-- a batch that is accepted on a store, tested
+unfoldable pub accepts : Answer Merged → Bool
+accepts (done m) = true
+accepts (refused r) = false
+
+pub accepted-on : (cap : ℕ) (s : Store) (j : HybridClock) (c : BatchCall) → accepts (answerOn cap s c) ≡ true
+    → (a : Areas) → readStore a ≡ done s → capacity (a .log) ≡ cap → (x : DeltaReport) × (deltaCall a j c .answer ≡ done x)
+unfolding accepts batchCall batchEnds deltaCall deltaEnds
+accepted-on cap s j c t a h room = by-test (batchAnswer a c) (ap accepts (rw room at (answer-on a s h c)) ∙ t)
+  where
+    by-test : (x : Answer Merged) → accepts x ≡ true → (y : DeltaReport) × (endsBy a j c x .answer ≡ done y)
+    by-test (done m) t = (_, refl)
+    by-test (refused r) t = absurd (clash t refl)
 
 seal-on : (a : Areas) (s : Store) → readStore a ≡ done s → (bytes signature : List ℕ)
     → sealAnswer a bytes signature ≡ sealOn (capacity (a .log)) s bytes signature

@@ -43,10 +43,10 @@ use Rattle.merging.proofs.AreasToStores.{Reaches, after-calls}
 use Rattle.words.specs.Lists.{all}
 
 -- one list of calls: the store that the areas hold at its end, and the run that led there
-reached : (a : Areas) (cs : List Call) → AllGiven cs → AllMayStand a [] cs → Empty a → Reaches (runCalls a cs) (offered a cs) (accepted a cs)
+pub reached : (a : Areas) (cs : List Call) → AllGiven cs → AllMayStand a [] cs → Empty a → Reaches (runCalls a cs) (offered a cs) (accepted a cs)
 reached a cs given may empty =
     after-calls cs given a [] [] may
-    (record { store = empty .store; holds = empty .holds; run = Run.start (empty .log) (empty .held) (empty .clock) })
+    (record { store = empty .store; holds = empty .holds; run = Run.start (empty .log) (empty .held) (empty .clock) (empty .marks) })
 
 pub convergence : Demand3
 convergence a₁ a₂ cs₁ cs₂ given₁ given₂ empty₁ empty₂ may₁ may₂ one spans₁ spans₂ =
@@ -54,8 +54,8 @@ convergence a₁ a₂ cs₁ cs₂ given₁ given₂ empty₁ empty₂ may₁ may
     let r₂ = reached a₂ cs₂ given₂ may₂ empty₂ in
     let g₁ = good (r₁ .run) (one-part (λ y m. Memᴰ·append-left (offered a₂ cs₂) m) one) spans₁ in
     let g₂ = good (r₂ .run) (one-part (λ y m. Memᴰ·append-right (offered a₁ cs₁) m) one) spans₂ in
-    let f₁ = follows (offered a₁ cs₁) (accepted a₁ cs₁) (r₁ .store) g₁ in
-    let f₂ = follows (offered a₂ cs₂) (accepted a₂ cs₂) (r₂ .store) g₂ in
+    let f₁ = follows (offered a₁ cs₁) (r₁ .store) (g₁ .ended) in
+    let f₂ = follows (offered a₂ cs₂) (r₂ .store) (g₂ .ended) in
     record {
       store₁ = r₁ .store;
       store₂ = r₂ .store;
@@ -63,7 +63,7 @@ convergence a₁ a₂ cs₁ cs₂ given₁ given₂ empty₁ empty₂ may₁ may
       holds₂ = r₂ .holds;
       follows₁ = f₁;
       follows₂ = f₂;
-      agree = agree (offered a₁ cs₁) (offered a₂ cs₂) (r₁ .store) (r₂ .store) (g₁ .inv .rises) (g₂ .inv .rises) f₁ f₂;
+      agree = agree (offered a₁ cs₁) (offered a₂ cs₂) (r₁ .store) (r₂ .store) (g₁ .ended .inv .rises) (g₂ .ended .inv .rises) f₁ f₂;
     }
 
 -- ---- there are empty stores: areas that are long enough, with nothing written to them

@@ -148,7 +148,7 @@ abbrev pub trace₂ : Trace
 trace₂ = record { store = after 60 (some (stampOf 5 1)); offers = r11 ∷ r12 ∷ r22 ∷ r32 ∷ r21 ∷ []; accepts = at 70 ∷ at 60 ∷ at 65 ∷ [] }
 
 -- stands for the definitions that read a batch and trace calls
-tracing : ℕ
+unfoldable pub tracing : ℕ
 unfolding computing reading trace answerOn batchRows raiseFloor sealOn readSealed readUnsigned sealTests sealRow
 tracing = 0
 
@@ -171,22 +171,22 @@ pub blank-reads : readStore blank ≡ done (emptyStore none)
 unfolding computing readStore longEnough soundAreas countsOk holds decodeStore capacity logBytes heldBytes headBytes encodeSlots loggedRows encodeMarks floorWords floorAt stampAt marksAt slotsAt clockAt column entries clockOf clockBytes zipped pairs authorsOf numbersOf rules derive all neverFalls heldRise noTwice marksRise floorOk clockOk rising wordPairs pad bes get64
 blank-reads = refl
 
-room : capacity (replicate 2816 0) ≡ 4
+pub room : capacity (replicate 2816 0) ≡ 4
 unfolding capacity
 room = refl
 
 -- ---- the hypotheses
 
-empty : Empty blank
+pub empty : Empty blank
 empty = record { store = emptyStore none; holds = blank-reads; log = refl; held = refl; clock = refl; marks = refl }
 
 -- a call can be made, tested
-unfoldable canMake : Call → Bool
+unfoldable pub canMake : Call → Bool
 canMake (Call.batch j c) = ltb (c .time) (2 ^ 64) && byteList (c .batch)
 canMake (Call.floor t) = stampOk t
 canMake (Call.seal bytes signature) = byteList bytes && byteList signature
 
-given-tested : (cs : List Call) → all canMake cs ≡ true → AllGiven cs
+pub given-tested : (cs : List Call) → all canMake cs ≡ true → AllGiven cs
 unfolding canMake
 given-tested cs t c m = by-call c (all-every canMake cs t c m)
   where
@@ -199,7 +199,7 @@ given₁ : AllGiven calls₁
 unfolding canMake all byteList
 given₁ = given-tested calls₁ refl
 
-given₂ : AllGiven calls₂
+pub given₂ : AllGiven calls₂
 unfolding canMake all byteList stampOk
 given₂ = given-tested calls₂ refl
 
@@ -259,7 +259,7 @@ stand₁ : AllMayStand blank [] calls₁
 unfolding AllStandOn
 stand₁ = all-stand 4 calls₁ given₁ blank (emptyStore none) blank-reads room [] (λ _ _ _. tt, (λ _ _ _. tt, (λ _ _ _. tt, tt)))
 
-stand₂ : AllMayStand blank [] calls₂
+pub stand₂ : AllMayStand blank [] calls₂
 unfolding tracing AllStandOn
 stand₂ =
     all-stand 4 calls₂ given₂ blank (emptyStore none) blank-reads room []
@@ -270,10 +270,10 @@ unfolding sameId
 same-id r s a q = and-both _ _ (eq-eqb _ _ a) (eq-eqb _ _ q)
 
 -- rows of one author and sequence are one row, tested
-unfoldable oneContent : List Row → Bool
+unfoldable pub oneContent : List Row → Bool
 oneContent rows = all (λ r. all (λ s. not (sameId r s) || sameContent r s) rows) rows
 
-one-tested : (rows : List Row) → oneContent rows ≡ true → OneContent rows
+pub one-tested : (rows : List Row) → oneContent rows ≡ true → OneContent rows
 unfolding oneContent
 one-tested rows t r s m n a q =
     let h : not (sameId r s) || sameContent r s ≡ true = all-every _ rows (all-every (λ r. all (λ s. not (sameId r s) || sameContent r s) rows) rows t r m) s n in
@@ -284,10 +284,10 @@ unfolding computing oneContent all
 one = rw (traces₁ .offers, traces₂ .offers) (one-tested _ refl)
 
 -- times within each age, tested
-unfoldable spanning : List Accepted → Bool
+unfoldable pub spanning : List Accepted → Bool
 spanning xs = all (λ x. all (λ y. all (λ z. leb (x .time) (y .time + z .age)) xs) xs) xs
 
-spans-tested : (xs : List Accepted) → spanning xs ≡ true → Spans xs
+pub spans-tested : (xs : List Accepted) → spanning xs ≡ true → Spans xs
 unfolding spanning
 spans-tested xs t x y z i j k =
     let over = all-every (λ x. all (λ y. all (λ z. leb (x .time) (y .time + z .age)) xs) xs) xs t x i in
@@ -298,7 +298,7 @@ spans₁ : Spans (accepted blank calls₁)
 unfolding spanning all
 spans₁ = rw (traces₁ .accepts) (spans-tested _ refl)
 
-spans₂ : Spans (accepted blank calls₂)
+pub spans₂ : Spans (accepted blank calls₂)
 unfolding spanning all
 spans₂ = rw (traces₂ .accepts) (spans-tested _ refl)
 
@@ -308,11 +308,11 @@ pub converges : Converges blank blank calls₁ calls₂
 converges = convergence blank blank calls₁ calls₂ given₁ given₂ empty empty stand₁ stand₂ one spans₁ spans₂
 
 -- the two lists offer the same rows, tested
-unfoldable has : Row → List Row → Bool
+unfoldable pub has : Row → List Row → Bool
 has r [] = false
 has r (s ∷ rows) = (sameId r s && sameContent r s) || has r rows
 
-has-there : (r : Row) (rows : List Row) → has r rows ≡ true → List·Memᴰ r rows
+pub has-there : (r : Row) (rows : List Row) → has r rows ≡ true → List·Memᴰ r rows
 unfolding has sameId
 has-there r [] t = absurd (clash t refl)
 has-there r (s ∷ rows) t = elim (test (sameId r s && sameContent r s)) [
@@ -322,7 +322,7 @@ has-there r (s ∷ rows) t = elim (test (sameId r s && sameContent r s)) [
   | inr h ↦ List·Memᴰ·tail (has-there r rows (rw h at t))
 ]
 
-within-tested : (few many : List Row) → all (λ r. has r many) few ≡ true → Within few many
+pub within-tested : (few many : List Row) → all (λ r. has r many) few ≡ true → Within few many
 within-tested few many t r m = has-there r many (all-every (λ r. has r many) few t r m)
 
 to : Within (offered blank calls₁) (offered blank calls₂)
@@ -332,6 +332,10 @@ to = rw (traces₁ .offers, traces₂ .offers) (within-tested _ _ refl)
 from : Within (offered blank calls₂) (offered blank calls₁)
 unfolding computing has all
 from = rw (traces₁ .offers, traces₂ .offers) (within-tested _ _ refl)
+
+-- areas hold one store
+pub done-same : {s t : Store} → _≡_ {A = Answer Store} (done s) (done t) → s ≡ t
+done-same e = cc
 
 -- so their logs, clocks and held rows agree, and these are they
 pub record Shown : Type 0 where
@@ -350,6 +354,3 @@ shown =
       ends₁ = done-same (sym (converges .holds₁) ∙ traces₁ .holds);
       ends₂ = done-same (sym (converges .holds₂) ∙ traces₂ .holds);
     }
-  where
-    done-same : {s t : Store} → _≡_ {A = Answer Store} (done s) (done t) → s ≡ t
-    done-same e = cc

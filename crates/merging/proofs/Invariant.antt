@@ -3,7 +3,7 @@ use Prim.Native.Nat.{ℕ, suc, _≤_, _<_}
 use mathlib.Core.Path.{_≡_, refl, sym, _∙_, ap}
 use mathlib.Core.Logic.{_⊎_, inl, inr}
 use mathlib.Core.Bool.{true, false}
-use mathlib.Core.List.{List, [], _∷_, _++_, append-assoc, append-nil, List·Memᴰ, Memᴰ·cast}
+use mathlib.Core.List.{List, [], _∷_, _++_, append-assoc, append-nil, List·Memᴰ, List·Memᴰ·head, List·Memᴰ·tail, Memᴰ·cast}
 use native.Mathlib.Omega.{arith}
 use lib.Dec.{eqb}
 use borrow.Author.Tests.{eqb-true, eqb-false, not-true, not-false}
@@ -24,10 +24,11 @@ use Rattle.merging.specs.Least.{Taken}
 use Rattle.merging.proofs.SortedLists.{place, place-self, place-old, place-cases, count-place, place-sorted}
 use Rattle.merging.proofs.RowOrders.{work-trans, work-irrefl, work-total, log-below, log-level, log-trans}
 use Rattle.merging.proofs.ClockLaws.{observe-put, get-next, get-others, Positive, positive-put}
-use Rattle.merging.proofs.CausalListings.{count-none, count-same, count-other, count-last, count-not-last, last-old, last-self, last-cases, listed-offered, listed-last, listed-bound, listed-at}
+use Rattle.merging.proofs.CausalListings.{count-none, count-same, count-other, count-last, count-not-last, last-old, last-self, last-cases, listed-more, listed-offered, listed-last, listed-bound, listed-at}
 use Rattle.merging.proofs.RowLists.{rows-mem, rows-last, goesBefore, enter-rows, older, insert-place, insert-last}
 use Rattle.merging.proofs.DrainInduction.{taken-self, taken-rest, taken-cases, taken-rows, taken-sorted, taken-apart, ready-seq, ready-deps, EndsIn, settled}
-use Rattle.merging.proofs.Admission.{Admits, old, again, new, admitted}
+use Rattle.merging.proofs.Admission.{Admits, old, again, new, admits, admits-same, admitted}
+use Rattle.merging.proofs.RowContent.{one-row}
 use Rattle.log.specs.Insertion.{insertRow, insert, insertAll}
 
 -- refusals 5 and 6: an offered row has a sequence above 0, and its stamp is its author's
@@ -50,6 +51,29 @@ pub record Inv (o p : List Row) (c : List (ℕ × ℕ)) (ls g w : List Row) : Ty
   pub listed-log : Within ls g
   pub counted : (a : ℕ) → count a g ≡ count a ls
 
+-- the same under more offers, with fewer rows held and others admitted, as long as each of these is listed or held
+pub weaker : {few many p q : List Row} {c : List (ℕ × ℕ)} {ls g w v : List Row} → Within few many → Within v w → Sorted workLess v
+    → ((y : Row) → List·Memᴰ y q → List·Memᴰ y ls ⊎ List·Memᴰ y v) → Inv few p c ls g w → Inv many q c ls g v
+weaker more fewer sorted all i =
+    record {
+      listing = listed-more more (i .listing);
+      clock = i .clock;
+      rises = i .rises;
+      positive = i .positive;
+      held = λ y m. more y (i .held y (fewer y m));
+      all = all;
+      ahead = λ y m. i .ahead y (fewer y m);
+      held-sorted = sorted;
+      log-sorted = i .log-sorted;
+      log-listed = i .log-listed;
+      listed-log = i .listed-log;
+      counted = i .counted;
+    }
+
+-- a listed row is at or below the clock
+pub listed-low : {o p : List Row} {c : List (ℕ × ℕ)} {ls g w : List Row} → Inv o p c ls g w → (x : Row) → List·Memᴰ x ls → x .seq ≤ get c (x .author)
+listed-low i x m = omega (arith, listed-bound (i .listing) x m .1, i .clock (x .author))
+
 count-cons : (a : ℕ) (r : Row) (g ls : List Row) → count a g ≡ count a ls → count a (r ∷ g) ≡ count a (ls ++ (r ∷ []))
 count-cons a r g ls e = elim (test (eqb (r .author) a)) [
   | inl h ↦ omega (arith, count-same a r g (eqb-true _ _ h), count-last a ls r (eqb-true _ _ h))
@@ -62,14 +86,16 @@ count-insert a r g = rw (insert-place r g) (count-place (λ (x : Row). eqb (x .a
 
 module _ (o : List Row) (one : OneContent o) (valid : (y : Row) → List·Memᴰ y o → Valid y) where
   module _ {p : List Row} {c : List (ℕ × ℕ)} {ls g w : List Row} (i : Inv o p c ls g w) where
-    -- a listed row is at or below the clock
-    listed-low : (x : Row) → List·Memᴰ x ls → x .seq ≤ get c (x .author)
-    listed-low x m = omega (arith, listed-bound (i .listing) x m .1, i .clock (x .author))
+    -- and an offered row at or below the clock is listed
+    pub low-listed : (x : Row) → List·Memᴰ x o → x .seq ≤ get c (x .author) → List·Memᴰ x ls
+    low-listed x m h =
+        let (y, k, a, n) = listed-at (i .listing) (x .author) (x .seq) (omega (arith, valid x m .first, count-none (x .author))) (omega (arith, i .clock (x .author))) in
+        Memᴰ·cast (sym (one y x (listed-offered (i .listing) y k) m a n)) k
 
     -- a row is logged
     module _ {rest : List Row} (r : Row) (rd : ready c r ≡ true) (t : Taken r rest w) (e : r .seq ≡ suc (get c (r .author))) where
       new-in-listing : List·Memᴰ r ls → ⊥
-      new-in-listing m = omega (arith, listed-low r m)
+      new-in-listing m = omega (arith, listed-low i r m)
 
       -- equal stamps are one author's, so the new row has the higher sequence
       logged-before : (x : Row) → List·Memᴰ x g → older r x ≡ false → logLess r x ≡ true
@@ -80,7 +106,7 @@ module _ (o : List Row) (one : OneContent o) (valid : (y : Row) → List·Memᴰ
             let k : List·Memᴰ x ls = i .log-listed x m in
             let q : x .author ≡ r .author =
             sym (valid x (listed-offered (i .listing) x k) .own) ∙ sym (ap (λ (z : Timestamp). z .«actor_id» .0) s) ∙ valid r (i .held r (taken-self t)) .own in
-            log-level r x s (omega (arith, listed-low x k, ap (get c) q))
+            log-level r x s (omega (arith, listed-low i x k, ap (get c) q))
       ]
 
       clock-moves : (a : ℕ) → get (observe c (r .author) (r .seq)) a ≡ count a (ls ++ (r ∷ []))
@@ -140,23 +166,10 @@ module _ (o : List Row) (one : OneContent o) (valid : (y : Row) → List·Memᴰ
     -- a row that is there already is admitted
     pub keeps-known : (r : Row) → List·Memᴰ r ls ⊎ List·Memᴰ r w → Inv o (p ++ (r ∷ [])) c ls g w
     keeps-known r k =
-        record {
-          listing = i .listing;
-          clock = i .clock;
-          rises = i .rises;
-          positive = i .positive;
-          held = i .held;
-          all = λ y m. elim (last-cases p r m) [
-            | inl q ↦ elim k [ inl j ↦ inl (Memᴰ·cast q j) | inr j ↦ inr (Memᴰ·cast q j) ]
-            | inr j ↦ i .all y j
-          ];
-          ahead = i .ahead;
-          held-sorted = i .held-sorted;
-          log-sorted = i .log-sorted;
-          log-listed = i .log-listed;
-          listed-log = i .listed-log;
-          counted = i .counted;
-        }
+        weaker (λ y m. m) (λ y m. m) (i .held-sorted) (λ y m. elim (last-cases p r m) [
+          | inl q ↦ elim k [ inl j ↦ inl (Memᴰ·cast q j) | inr j ↦ inr (Memᴰ·cast q j) ]
+          | inr j ↦ i .all y j
+        ]) i
 
     -- a new row is admitted
     pub keeps-new : (r : Row) → List·Memᴰ r o → get c (r .author) < r .seq → ((y : Row) → List·Memᴰ y w → r .author ≡ y .author → r .seq ≡ y .seq → ⊥)
@@ -185,10 +198,7 @@ module _ (o : List Row) (one : OneContent o) (valid : (y : Row) → List·Memᴰ
   module _ (c : List (ℕ × ℕ)) (time : ℕ) (ls g : List Row) where
     keeps-admit : (p : List Row) (a : Admitted) (b : BatchRow) (r : Admitted) → List·Memᴰ (b .row) o → Admits c time a b r
         → Inv o p c ls g (rowsOf (a .working)) → Inv o (p ++ (b .row ∷ [])) c ls g (rowsOf (r .working))
-    keeps-admit p a b r bo (old h) i =
-        let t = listed-at (i .listing) (b .row .author) (b .row .seq) (omega (arith, valid (b .row) bo .first, count-none (b .row .author)))
-        (omega (arith, i .clock (b .row .author))) in
-        keeps-known i (b .row) (inl (Memᴰ·cast (sym (one (t .0) (b .row) (listed-offered (i .listing) (t .0) (t .1)) bo (t .2) (t .3))) (t .1)))
+    keeps-admit p a b r bo (old h) i = keeps-known i (b .row) (inl (low-listed i (b .row) bo (omega arith)))
     keeps-admit p a b r bo (again {h = h} m e f s) i =
         let k : List·Memᴰ (h .row) (rowsOf (a .working)) = rows-mem (a .working) m in
         keeps-known i (b .row) (inr (Memᴰ·cast (one (b .row) (h .row) bo (i .held (h .row) k) e f) k))
@@ -198,6 +208,17 @@ module _ (o : List Row) (one : OneContent o) (valid : (y : Row) → List·Memᴰ
         → admitAll c time a rows ≡ done r → Inv o p c ls g (rowsOf (a .working)) → Inv o (p ++ batchRows rows) c ls g (rowsOf (r .working))
     keeps-admits rows sub p a r e i =
         admitted c time (λ p w. Inv o p c ls g (rowsOf w)) rows (λ p a b r m d i. keeps-admit p a b r (sub b m) d i) rows (λ b m. m) p a r e i
+
+    -- none of these is a conflict, so that the whole batch is admitted
+    pub all-admitted : (rows : List BatchRow) → ((b : BatchRow) → List·Memᴰ b rows → List·Memᴰ (b .row) o) → (p : List Row) (a : Admitted)
+        → Inv o p c ls g (rowsOf (a .working)) → (r : Admitted) × (admitAll c time a rows ≡ done r)
+    unfolding admitAll
+    all-admitted [] sub p a i = (a, refl)
+    all-admitted (b ∷ rows) sub p a i =
+        let bo = sub b (List·Memᴰ·head refl) in
+        let (x, e) = admits-same c time a b (λ h m q n. one-row (h .row) (b .row) .1 (sym (one (b .row) (h .row) bo (i .held (h .row) (rows-mem (a .working) m)) q n)) .2) in
+        let (r, f) = all-admitted rows (λ y m. sub y (List·Memᴰ·tail m)) (p ++ (b .row ∷ [])) x (keeps-admit p a b x bo (admits c time a b x e) i) in
+        (r, rw e f)
 
   -- the working rows are drained: the clock is that of the store with the logged rows inserted, and nothing is dropped
   pub record Settled (p : List Row) (s : Store) (ls : List Row) (c : List (ℕ × ℕ)) (w l : List HeldRow) (dropped : ℕ) : Type 0 where

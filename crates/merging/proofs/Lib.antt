@@ -11,6 +11,7 @@ pub mod Sealings
 pub mod SealedRows
 pub mod StoreRuns
 pub mod StoreAgreement
+pub mod Watermarks
 pub mod RulesKept
 pub mod LeastReady
 pub mod RowContent
@@ -18,8 +19,11 @@ pub mod BatchRows
 pub mod AreasToStores
 pub mod OwnRows
 pub mod Convergence
+pub mod Expiring
 pub mod CallTraces
 pub mod DemandInstance
+pub mod ExpiringInstance
+pub mod ExpiringNeeds
 pub mod Traces
 pub mod Balance
 pub mod LentBytes

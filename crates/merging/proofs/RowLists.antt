@@ -1,10 +1,11 @@
 -- Rows of held rows, rows put in their places, rows inserted one after the other.
-use Prim.Native.Nat.{ℕ, _≤_}
+use Prim.Native.Nat.{ℕ, _+_, _≤_}
 use mathlib.Core.Path.{_≡_, refl, ap}
 use mathlib.Core.Logic.{_⊎_, inl, inr}
 use mathlib.Core.Bool.{Bool, true, false, not}
-use mathlib.Core.List.{List, [], _∷_, _++_, List·Memᴰ, List·Memᴰ·head, List·Memᴰ·tail, List·Memᴰ·not-nil, List·Memᴰ·cases-cons}
+use mathlib.Core.List.{List, [], _∷_, _++_, map, List·Memᴰ, List·Memᴰ·head, List·Memᴰ·tail, List·Memᴰ·not-nil, List·Memᴰ·cases-cons}
 use native.Mathlib.Omega.{arith}
+use lib.ListN.{length}
 use borrow.Author.Tests.{leb-false}
 use Rattle.words.specs.Choice.{pick}
 use Rattle.words.proofs.Words.{test}
@@ -12,8 +13,10 @@ use Rattle.clock.specs.Order.{stampLess}
 use Rattle.row.specs.Rows.{Row, HeldRow, workLess}
 use Rattle.log.specs.Store.{Store}
 use Rattle.log.specs.Areas.{rowsOf}
-use Rattle.merging.specs.Merging.{unexpired, enter, inTime}
-use Rattle.merging.specs.Offers.{Sorted}
+use Rattle.log.proofs.store.Rules.{length-rows}
+use Rattle.merging.specs.Batch.{Limits}
+use Rattle.merging.specs.Merging.{unexpired, enter, inTime, payloadBytes, authors, quotas}
+use Rattle.merging.specs.Offers.{Sorted, Within}
 use Rattle.merging.proofs.SortedLists.{place}
 use Rattle.log.specs.Insertion.{insertRow, insert, insertAll}
 
@@ -107,6 +110,9 @@ unexpired-all cutoff (k ∷ hs) f =
     let late : cutoff ≤ k .arrival = f k (List·Memᴰ·head refl) in
     rw (unexpired-all cutoff hs (λ h m. f h (List·Memᴰ·tail m))) (expire-not (inTime cutoff k) k hs (λ e. omega (arith, leb-false)))
 
+pub unexpired-rows : (cutoff : ℕ) (hs : List HeldRow) → Within (rowsOf (unexpired cutoff hs)) (rowsOf hs)
+unexpired-rows cutoff hs = rows-every (λ y. List·Memᴰ y (rowsOf hs)) (unexpired cutoff hs) (λ k m. rows-mem hs (unexpired-old cutoff hs k m))
+
 -- what is in order stays so
 expire-sorted : (less : Row → Row → Bool) (b : Bool) (k : HeldRow) (hs : List HeldRow) → Sorted less (k .row ∷ rowsOf hs) → Sorted less (rowsOf (pick b (k ∷ hs) hs))
 unfolding rowsOf
@@ -117,5 +123,24 @@ pub sorted-unexpired : (less : Row → Row → Bool) (cutoff : ℕ) (hs : List H
 unfolding unexpired rowsOf
 sorted-unexpired less cutoff [] s = s
 sorted-unexpired less cutoff (h ∷ hs) (Sorted.more f s) =
-    let old = rows-every (λ y. List·Memᴰ y (rowsOf hs)) (unexpired cutoff hs) (λ k m. rows-mem hs (unexpired-old cutoff hs k m)) in
-    expire-sorted less (inTime cutoff h) h (unexpired cutoff hs) (Sorted.more {r = h .row} {rows = rowsOf (unexpired cutoff hs)} (λ y m. f y (old y m)) (sorted-unexpired less cutoff hs s))
+    expire-sorted less (inTime cutoff h) h (unexpired cutoff hs) (Sorted.more {r = h .row} {rows = rowsOf (unexpired cutoff hs)} (λ y m. f y (unexpired-rows cutoff hs y m)) (sorted-unexpired less cutoff hs s))
+
+-- ---- quotas look at the rows alone
+
+held-authors : (hs : List HeldRow) → authors hs ≡ map (λ r. r .author) (rowsOf hs)
+unfolding authors rowsOf
+held-authors [] = refl
+held-authors (h ∷ hs) = ap (λ (l : List ℕ). h .row .author ∷ l) (held-authors hs)
+
+rowBytes : List Row → ℕ
+rowBytes [] = 0
+rowBytes (r ∷ rows) = length (r .payload) + rowBytes rows
+
+held-bytes : (hs : List HeldRow) → payloadBytes hs ≡ rowBytes (rowsOf hs)
+unfolding payloadBytes rowsOf rowBytes
+held-bytes [] = refl
+held-bytes (h ∷ hs) = ap (λ (n : ℕ). length (h .row .payload) + n) (held-bytes hs)
+
+pub same-quotas : (l : Limits) (hs ks : List HeldRow) → rowsOf hs ≡ rowsOf ks → quotas l hs ≡ quotas l ks
+unfolding quotas
+same-quotas l hs ks e = rw (← (length-rows hs), ← (length-rows ks), held-bytes hs, held-bytes ks, held-authors hs, held-authors ks, e)

@@ -13,22 +13,22 @@ use Rattle.clock.proofs.RisingAuthors.{Rises}
 use Rattle.row.specs.Rows.{Row, workLess}
 use Rattle.log.specs.Store.{Store}
 use Rattle.log.specs.Areas.{rowsOf}
-use Rattle.merging.specs.Offers.{Accepted, count, ListedAfter, logLess, Follows, Within, Agree}
+use Rattle.merging.specs.Offers.{count, ListedAfter, logLess, Follows, Within, Agree}
 use Rattle.merging.proofs.SortedLists.{sorted-sublist, sorted-unique}
 use Rattle.merging.proofs.RowOrders.{work-trans, work-irrefl, log-trans, log-irrefl}
 use Rattle.merging.proofs.ClockLaws.{clock-unique}
-use Rattle.merging.proofs.CausalListings.{count-none, count-last, count-not-last, last-self, listed-more, listed-until, listed-bound}
+use Rattle.merging.proofs.CausalListings.{count-none, count-last, count-not-last, last-self, listed-more, listed-until}
 use Rattle.merging.proofs.DrainInduction.{is-ready}
-use Rattle.merging.proofs.Invariant.{Inv}
-use Rattle.merging.proofs.StoreRuns.{Good}
+use Rattle.merging.proofs.Invariant.{Inv, listed-low}
+use Rattle.merging.proofs.StoreRuns.{Ended}
 
-module _ (o : List Row) (t : List Accepted) (s : Store) (G : Good o t s) where
-  i : Inv o o (s .clock) (G .listing) (s .log) (rowsOf (s .held))
-  i = G .inv
+module _ (o : List Row) (s : Store) (E : Ended o o s) where
+  i : Inv o o (s .clock) (E .listing) (s .log) (rowsOf (s .held))
+  i = E .inv
 
   -- a logged row is at or below the clock
   logged-low : (r : Row) → List·Memᴰ r (s .log) → r .seq ≤ get (s .clock) (r .author)
-  logged-low r m = omega (arith, listed-bound (i .listing) r (i .log-listed r m) .1, i .clock (r .author))
+  logged-low r m = listed-low i r (i .log-listed r m)
 
   -- every row of a causal listing is logged: the first that is not would be held and ready
   walk : {before rows : List Row} → ListedAfter o before rows → ((a : ℕ) → count a before ≤ get (s .clock) a) → Within rows (s .log)
@@ -36,7 +36,7 @@ module _ (o : List Row) (t : List Accepted) (s : Store) (G : Good o t s) where
   walk (ListedAfter.more {before = before} {rows = rows} {r = r} ro new e f k) low y m =
       let logged : List·Memᴰ r (s .log) = elim (i .all r ro) [
         | inl q ↦ i .listed-log r q
-        | inr q ↦ absurd (clash (is-ready (s .clock) r (omega (arith, low (r .author))) (λ a n d. omega (arith, f a n d, low a))) (G .idle r q))
+        | inr q ↦ absurd (clash (is-ready (s .clock) r (omega (arith, low (r .author))) (λ a n d. omega (arith, f a n d, low a))) (E .idle r q))
       ] in
       elim (List·Memᴰ·cases-cons m) [
         | inl q ↦ Memᴰ·cast q logged

@@ -7,7 +7,7 @@ use mathlib.Core.List.{List, [], _∷_, List·Memᴰ, List·Memᴰ·not-nil, Lis
 use native.Mathlib.Omega.{arith}
 use lib.ListN.{length}
 use lib.Dec.{leb, eqb}
-use borrow.Author.Tests.{leb-true}
+use borrow.Author.Tests.{leb-true, le-leb}
 use Rattle.error.specs.declared.Refusal.{Refusal}
 use Rattle.words.specs.Names.{Time}
 use Rattle.error.specs.Answer.{Answer, done, refused, andThen, unless, nothing, Ends, Got, got, bad}
@@ -15,9 +15,9 @@ use Rattle.clock.specs.declared.hybrid.HybridClock.{HybridClock}
 use Rattle.row.specs.Rows.{Row}
 use Rattle.row.specs.Reading.{BatchRow}
 use Rattle.log.specs.Store.{Store}
-use Rattle.log.specs.Areas.{Areas, readStore}
+use Rattle.log.specs.Areas.{Areas, capacity, readStore}
 use Rattle.merging.specs.Batch.{Limits, limitsOk, whole, readBatch, validate, validateAll}
-use Rattle.merging.specs.Merging.{admitAll, quotas, Merged, commit, settle, finish, merge}
+use Rattle.merging.specs.Merging.{staying, Admitted, starting, admitAll, Drained, lines, report, quotas, Merged, commit, settle, finish, merge}
 use Rattle.merging.specs.Calls.{BatchCall, roomFor, batchAnswer, batchEnds}
 use Rattle.merging.specs.Delta.{DeltaReport, DeltaLeft, deltaEnds}
 use Rattle.merging.specs.Trace.{Fits, MergeWent, CallAnswered}
@@ -66,6 +66,10 @@ fits-done cap s {t} e =
     let (x, y) = both (leb (length (s .clock)) 32) _ u in
     (cc, record { log = leb-true _ _ p; clock = leb-true _ _ x; marks = leb-true _ _ y })
 
+pub fits-there : (cap : ℕ) (s : Store) → Fits cap s → fits cap s ≡ done s
+unfolding fits
+fits-there cap s f = rw (le-leb _ _ (f .log), le-leb _ _ (f .clock), le-leb _ _ (f .marks))
+
 -- inserting rows leaves the held ones
 pub insert-held : (s : Store) (rows : List Row) → insertAll s rows .held ≡ s .held
 unfolding insertAll insert
@@ -96,6 +100,17 @@ merge-went cap l time s rows m e =
       lines-are = cc;
     }
 
+-- and where these are passed, it is accepted
+pub merge-goes : (cap : ℕ) (l : Limits) (time : Time) (s : Store) (rows : List BatchRow) (a : Admitted) → validateAll l time rows ≡ done nothing
+    → admitAll (s .clock) time (starting (staying l time s)) rows ≡ done a → quotas l (settle s a .waiting) ≡ done nothing → Fits cap (commit s (settle s a))
+    → (m : Merged) × (merge cap l time s rows ≡ done m)
+unfolding merge finish
+merge-goes cap l time s rows a valid admits quota within =
+    let d : Drained = settle s a in (
+      record { store = commit s d; report = report s (staying l time s) a d; lines = lines (s .floor) (d .logged) },
+      rw (valid, admits, quota, fits-there cap (commit s d) within),
+    )
+
 pub call-answered : CallAnswered
 unfolding batchAnswer
 call-answered a c m e =
@@ -104,6 +119,12 @@ call-answered a c m e =
     let (rows, r, e₃) = then-done (readBatch (c .batch)) _ e₂ in
     let (t, e₄) = unless-done (roomFor (length (s .held) + length rows) (c .scratch) (c .output)) _ _ e₃ in
     record { limits = p; store = s; reads = q; rows = rows; brings = r; room = t; merges = e₄ }
+
+-- and a call that passes as much answers what merging does
+pub answers-merge : (a : Areas) (c : BatchCall) (s : Store) (rows : List BatchRow) → limitsOk (c .limits) ≡ true → readStore a ≡ done s → readBatch (c .batch) ≡ done rows
+    → roomFor (length (s .held) + length rows) (c .scratch) (c .output) ≡ true → batchAnswer a c ≡ merge (capacity (a .log)) (c .limits) (c .time) s rows
+unfolding batchAnswer
+answers-merge a c s rows limits reads brings room = rw (limits, reads, brings, room)
 
 -- how the joined call ends where merging answers x
 abbrev pub endsBy : Areas → HybridClock → BatchCall → Answer Merged → Ends DeltaReport DeltaLeft

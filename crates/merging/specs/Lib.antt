@@ -6,6 +6,7 @@ pub mod FoldedStamps
 pub mod Desk
 pub mod Offers
 pub mod OwnRows
+pub mod Expiring
 pub mod Least
 pub mod Balance
 pub mod LentBytes

@@ -1,10 +1,10 @@
 //! Ticket 13: a store whose rows may expire, the first, beside one whose rows may not, the second.
 
-use std::collections::BTreeSet;
+use std::collections::{BTreeMap, BTreeSet};
 
 use cuwelfra::Limits;
 
-use crate::model::demand::{self, one_content, require, Offers};
+use crate::model::demand::{self, held, one_content, require, Offers};
 use crate::port::batches::BatchRow;
 use crate::port::rows::Row;
 use crate::port::store::Content;
@@ -66,10 +66,17 @@ pub fn by_clocks(first: &Content, second: &Content) -> Result<(), &'static str> 
     require(told, "equal clocks, equal logs")
 }
 
-/// Whether quotas are at least others: with those of the second's last accepted batch, and a log area as large as its own,
-/// the first has room for all that the second has.
-pub fn quotas_reach(limits: &Limits, other: &Limits) -> bool {
-    limits.max_pending >= other.max_pending
-        && limits.max_pending_per_actor >= other.max_pending_per_actor
-        && limits.max_pending_bytes >= other.max_pending_bytes
+/// Whether the first finds room for all that the second has: a log area with so many slots, and the quotas of a batch.
+pub fn finds_room(slots: usize, limits: &Limits, second: &Content) -> bool {
+    let mut authors: BTreeMap<u64, u64> = BTreeMap::new();
+    for row in held(second) {
+        *authors.entry(row.author).or_default() += 1;
+    }
+    let payloads = held(second).map(|row| row.payload.len() as u64);
+    second.rows.len() <= slots
+        && second.held.len() as u64 <= limits.max_pending
+        && payloads.sum::<u64>() <= limits.max_pending_bytes
+        && authors
+            .values()
+            .all(|count| *count <= limits.max_pending_per_actor)
 }

@@ -3,7 +3,7 @@
 use cuwelfra_sys::{DeltaTold, Told};
 
 use crate::model::demand::held;
-use crate::model::expiring::{by_clocks, carries, caught_up, missing, part, quotas_reach};
+use crate::model::expiring::{by_clocks, carries, caught_up, finds_room, missing, part};
 use crate::port::batches::{BatchRow, Offer};
 use crate::port::rows::Row;
 use crate::port::store::Content;
@@ -36,7 +36,7 @@ pub fn holds(rng: &mut Rng, mut pair: Pair, counts: &mut Counts) -> Check {
     agree(&whole, &true, || format!("{offer:02x?}, {}", shown()))?;
     let told = pair.first.batch(rng, &offer)?;
     counts.refused.note(&told.told);
-    not_refused(&pair, &offer, &told, counts)?;
+    accepted_with_room(&pair.first, &other, &offer, &told, counts)?;
     if !accepted(&told) {
         return Ok(());
     }
@@ -82,16 +82,24 @@ fn any_offer(rng: &mut Rng, universe: &Universe, rows: Vec<&Row>) -> Offer {
     }
 }
 
-/// Where the first has as much room as the second, neither 13 nor 14 to 18 refuses the batch.
-fn not_refused(pair: &Pair, offer: &Offer, told: &DeltaTold, counts: &mut Counts) -> Check {
-    let [first, second] = [&pair.first, &pair.second].map(|desk| desk.joined.areas.capacity());
-    let quotas = |last| quotas_reach(&offer.limits, last);
-    if first < second || !pair.second.limits.as_ref().is_some_and(quotas) {
+/// A batch that passes 12 is accepted where the first finds room for all that the second has, and nowhere else; 13 never
+/// comes.
+fn accepted_with_room(
+    first: &Desk,
+    second: &Content,
+    offer: &Offer,
+    told: &DeltaTold,
+    counts: &mut Counts,
+) -> Check {
+    let number = told.told.number;
+    if (1..=12).contains(&number) {
         return Ok(());
     }
-    counts.kinds.note(counts::ROOM, true);
-    let number = told.told.number;
-    agree(&(13..=18).contains(&number), &false, || {
+    let room = finds_room(first.joined.areas.capacity(), &offer.limits, second);
+    counts.kinds.note(counts::ROOM, room);
+    counts.kinds.note(counts::NO_ROOM, !room);
+    let refused = (14..=18).contains(&number);
+    agree(&(accepted(told), refused), &(room, !room), || {
         format!("refused with {number}: {offer:02x?}")
     })
 }

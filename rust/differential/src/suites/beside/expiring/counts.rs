@@ -12,7 +12,7 @@ use crate::suites::beside::expiring::desk::Desk;
 use crate::suites::beside::expiring::pairs::Pair;
 use crate::support::{note, Check, Outcome};
 
-/// Pairs that must be in use at least, and batches that must not be refused.
+/// Pairs that must be in use at least, and batches that must be accepted.
 const IN_USE: u64 = 100_000;
 const FIND_ROOM: u64 = 10_000;
 
@@ -28,16 +28,18 @@ const PAIRS: [&str; 9] = [
     "with equal clocks and other held rows",
 ];
 
-/// The batches by which first stores catch up: all that may not be refused for room, and three kinds of accepted ones; and
-/// how often a later one lets held rows expire again.
-const BATCHES: [&str; 5] = [
+/// The batches by which first stores catch up: those past 12 that find room and that do not, and three kinds of accepted
+/// ones; and how often a later one lets held rows expire again.
+const BATCHES: [&str; 6] = [
     ROOM,
+    NO_ROOM,
     "in which held rows expire",
     "after which rows are held",
     "with logged rows or repeats",
     AGAIN,
 ];
 pub const ROOM: &str = "that find room";
+pub const NO_ROOM: &str = "that find none";
 pub const AGAIN: &str = "whose held rows expire again";
 
 const CONTROLS: [&str; 6] = [
@@ -94,7 +96,7 @@ impl Counts {
 
     /// An accepted batch, and whether it carried more than was missing.
     pub fn caught_up(&mut self, told: &DeltaTold, more: bool) {
-        let [_, expire, held, duplicates, _] = BATCHES;
+        let [_, _, expire, held, duplicates, _] = BATCHES;
         self.kinds.note(expire, told.expired > 0);
         self.kinds.note(held, told.held > 0);
         self.kinds.note(duplicates, more);

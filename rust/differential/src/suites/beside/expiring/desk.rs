@@ -1,6 +1,5 @@
 //! A store that starts empty, driven beside the original's merger, and what it was offered.
 
-use cuwelfra::Limits;
 use cuwelfra_sys::{DeltaTold, Told};
 use oracle::log::ReplicatedLog;
 
@@ -19,8 +18,6 @@ use crate::world::own::Entry;
 pub struct Desk {
     pub joined: Joined,
     pub offers: Offers,
-    /// The settings of the last accepted batch.
-    pub limits: Option<Limits>,
     /// How many batches were refused, and how many rows expired.
     pub refused: u64,
     pub expired: u64,
@@ -31,7 +28,6 @@ impl Desk {
         Self {
             joined: Joined::new(ReplicatedLog::new(), capacity),
             offers: Offers::default(),
-            limits: None,
             refused: 0,
             expired: 0,
         }
@@ -48,7 +44,6 @@ impl Desk {
         match told.told == Told::default() {
             true => {
                 self.offers.batch(offer);
-                self.limits = Some(offer.limits);
                 self.expired += told.expired;
             }
             false => self.refused += 1,

@@ -36,7 +36,7 @@ const KINDS: [&str; 9] = [
     "no row missing",
     "more than 64 rows missing",
     "with rows that expire on the way",
-    "with a batch that is not full before the last",
+    "with a short batch first",
     "by one batch",
 ];
 
@@ -161,9 +161,14 @@ fn catches_up(
     agree(&lacks, &Vec::new(), || "a pair of full size".into())?;
     agree(&part(&one, &other), &Ok(()), || "full size".into())?;
     let lacking = lacking(&one, &other);
-    let count = (lacking.len() + other.held.len()).div_ceil(BATCH).max(1);
+    let total = lacking.len() + other.held.len();
+    let count = total.div_ceil(BATCH).max(1);
+    // A batch has room for all held rows, so these are rows of the log.
+    let early = &lacking[..total.saturating_sub(BATCH)];
+    let batches = early.rchunks(BATCH).len() + 1;
+    agree(&batches, &count, || format!("{total} rows in batches"))?;
     let expired = first.expired;
-    bring(rng, &mut first, second, &lacking, count)?;
+    bring(rng, &mut first, second, early)?;
     let after = first.content()?;
     agree(&caught_up(&after, &other), &Ok(()), || {
         format!("{count} batches, the first then {after:02x?}, the second {other:02x?}")
@@ -176,27 +181,26 @@ fn catches_up(
         lacking.is_empty(),
         lacking.len() > BATCH,
         first.expired > expired,
-        lacking.len() < (count - 1) * BATCH,
+        early.len() % BATCH > 0,
         count == 1,
     ];
     tally.note_all(&KINDS, holds);
     Ok(count as u64)
 }
 
-/// So many batches: all but the last bring rows that can be logged when they come, the last every row that is not logged
-/// then.
-fn bring(rng: &mut Rng, first: &mut Desk, second: &Desk, lacking: &[&Row], count: usize) -> Check {
+/// Batches cut from the end, so that the first is the short one, bring rows that can be logged when they come. The last brings
+/// every row that is not logged then.
+fn bring(rng: &mut Rng, first: &mut Desk, second: &Desk, early: &[&Row]) -> Check {
     let mut time = START + 100 * AGE;
-    for n in 0..count - 1 {
-        let rows = lacking.iter().skip(n * BATCH).take(BATCH);
-        let rows: Vec<Row> = rows.map(|row| (*row).clone()).collect();
+    for rows in early.rchunks(BATCH).rev() {
+        let rows: Vec<Row> = rows.iter().map(|row| (*row).clone()).collect();
         time += AGE + 1 + rng.next() % AGE;
         batch(rng, first, time, &rows)?;
     }
     let before = first.content()?;
-    let mut brought = lacking.iter().take((count - 1) * BATCH);
     let logged = |row: &&Row| before.clock.get(&row.author) >= Some(&row.seq);
-    agree(&brought.all(logged), &true, || "rows are logged".into())?;
+    let all = early.iter().all(logged);
+    agree(&all, &true, || "rows are logged".into())?;
     let rows = missing(&before, &second.offers).into_iter().cloned();
     let rows: Vec<Row> = rows.collect();
     batch(rng, first, time + AGE + 1, &rows)
