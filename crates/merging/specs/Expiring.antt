@@ -1,4 +1,5 @@
--- Document 02, ticket 13: stores that let rows expire. Statements; their proofs stand in proofs/Expiring.antt.
+-- Document 02, ticket 13: stores that let rows expire. The first store is the one that does, the second keeps demand 3's limit. Statements; their proofs stand in
+-- proofs/Expiring.antt.
 use Prim.Native.Nat.{_+_, _≤_, _<_}
 use mathlib.Core.Path.{_≡_}
 use mathlib.Core.Logic.{_↔_, _⊎_}
@@ -28,7 +29,7 @@ pub record AtAnyTimes (a₁ a₂ : Areas) (cs₁ cs₂ : List Call) : Type 0 whe
   pub may-stand₂ : AllMayStand a₂ [] cs₂
   pub one-content : OneContent (offered a₁ cs₁ ++ offered a₂ cs₂)
 
--- what the rows of a batch are that catches up, by the rows offered to the second store and the first's log
+-- the rows of a batch that catches up, by the rows offered to the second store and the first's log
 pub record CarriesMissing (offers log rows : List Row) : Type 0 where
   -- 02: "carries every row offered in the second's whole list that the first has not logged": one that the first only holds too, for it may expire in that very
   -- batch
@@ -44,6 +45,7 @@ pub record Equals (a : Areas) (t : Store) : Type 0 where
   pub clock : store .clock ≡ t .clock
   pub held : rowsOf (store .held) ≡ rowsOf (t .held)
 
+-- what holds of the two lists
 pub record CatchesUp (a₁ a₂ : Areas) (cs₁ cs₂ : List Call) : Type 0 where
   pub store₁ : Store
   pub store₂ : Store
@@ -57,7 +59,7 @@ pub record CatchesUp (a₁ a₂ : Areas) (cs₁ cs₂ : List Call) : Type 0 wher
       → CarriesMissing (offered a₂ cs₂) (store₁ .log) (rowsRead (readBatch (c .batch)))
       → Equals (afterCall (runCalls a₁ cs₁) (Call.batch hybrid c)) store₂
 
--- ticket 13. 02: "Drop the limit on the span of batch times for one of two stores, the other keeping it": `Spans` is asked of the second alone. Of "both offered
+-- the ticket. 02: "Drop the limit on the span of batch times for one of two stores, the other keeping it": `Spans` is asked of the second alone. Of "both offered
 -- the same rows" one half is enough: the first was offered no row that the second was not. What else the second was offered comes with the batch
 abbrev pub Ticket13 : Type 0
 Ticket13 =

@@ -42,6 +42,14 @@ pub fn missing<'a>(first: &Content, second: &'a Offers) -> BTreeSet<&'a Row> {
     offered.filter(|row| !logged.contains(row)).collect()
 }
 
+/// The same by what the stores hold: the second's logged rows above the first's clock, and its held ones.
+pub fn to_send<'a>(first: &Content, second: &'a Content) -> BTreeSet<&'a Row> {
+    let number = |author: u64| first.clock.get(&author).copied().unwrap_or(0);
+    let logged = second.rows.iter();
+    let above = logged.filter(|row| row.seq > number(row.author));
+    above.chain(held(second)).collect()
+}
+
 /// Whether a batch carries what is missing, and no row that the second was not offered.
 pub fn carries(batch: &[BatchRow], first: &Content, second: &Offers) -> bool {
     let rows: BTreeSet<&Row> = batch.iter().map(|lent| &lent.row).collect();

@@ -3,7 +3,7 @@
 use cuwelfra_sys::{DeltaTold, Told};
 
 use crate::model::demand::held;
-use crate::model::expiring::{by_clocks, carries, caught_up, finds_room, missing, part};
+use crate::model::expiring::{by_clocks, carries, caught_up, finds_room, missing, part, to_send};
 use crate::port::batches::{BatchRow, Offer};
 use crate::port::rows::Row;
 use crate::port::store::Content;
@@ -28,6 +28,8 @@ pub fn holds(rng: &mut Rng, mut pair: Pair, counts: &mut Counts) -> Check {
     let shown = || format!("the stores {:02x?}", [&one, &other]);
     agree(&part(&one, &other), &Ok(()), shown)?;
     agree(&by_clocks(&one, &other), &Ok(()), shown)?;
+    let sent = missing(&one, &pair.second.offers);
+    agree(&to_send(&one, &other), &sent, shown)?;
     if rng.once_in(4) {
         broken_batches(rng, &pair, &one, &other, counts)?;
     }

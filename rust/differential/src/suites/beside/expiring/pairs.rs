@@ -40,15 +40,18 @@ impl Pair {
         };
         let side = rng.below(2);
         let own = |side: usize| own.map(|own| (own, own.authors[side]));
-        let mut first = List::new(rng, &universe, Timing::Any, own(side));
-        let mut second = List::new(rng, &universe, timing, own(1 - side));
-        let more = lacking == Some(Lacks::SameRows);
+        let mut making = Making {
+            universe: &universe,
+            first: List::new(rng, &universe, Timing::Any, own(side)),
+            second: List::new(rng, &universe, timing, own(1 - side)),
+            more: lacking == Some(Lacks::SameRows),
+        };
         match rng.below(3) {
-            0 if !more => second_first(rng, &universe, &mut first, &mut second)?,
-            1 => first_first(rng, &universe, &mut first, &mut second, more)?,
-            _ => in_turns(rng, &universe, &mut first, &mut second, more)?,
+            0 if !making.more => making.second_first(rng)?,
+            1 => making.first_first(rng)?,
+            _ => making.in_turns(rng)?,
         }
-        let (first, second) = (first.desk, second.desk);
+        let (first, second) = (making.first.desk, making.second.desk);
         Ok(Self {
             universe,
             first,
@@ -57,63 +60,61 @@ impl Pair {
     }
 }
 
-/// The first is offered a part of the second's rows, or all of them. Rows of its own the second would not have.
-fn second_first(rng: &mut Rng, universe: &Universe, first: &mut List, second: &mut List) -> Check {
-    second.calls(rng, &universe.rows)?;
-    let rows = second.offered();
-    first.seal_nothing();
-    if rng.once_in(2) {
-        first.calls(rng, &rows)?;
-    }
-    let rows = match rng.once_in(2) {
-        true => rows,
-        false => some(rng, rows),
-    };
-    first.deliver(rng, rows)
-}
-
-/// The second is offered all rows of the first, and maybe others.
-fn first_first(
-    rng: &mut Rng,
-    universe: &Universe,
-    first: &mut List,
-    second: &mut List,
+/// Two lists in the making, and whether the first is to be offered more than the second.
+struct Making<'a> {
+    universe: &'a Universe,
+    first: List<'a>,
+    second: List<'a>,
     more: bool,
-) -> Check {
-    first.calls(rng, &universe.rows)?;
-    if rng.once_in(2) {
-        second.calls(rng, &universe.rows)?;
-    }
-    let rows = first.offered();
-    deliver_rest(rng, second, rows, more)
 }
 
-/// Each is offered rows of the universe and of the other, and at the end the second all of the first.
-fn in_turns(
-    rng: &mut Rng,
-    universe: &Universe,
-    first: &mut List,
-    second: &mut List,
-    more: bool,
-) -> Check {
-    for _ in 0..2 {
-        let rows = [&universe.rows[..], &second.offered()].concat();
-        first.calls(rng, &rows)?;
-        let rows = [&universe.rows[..], &first.offered()].concat();
-        second.calls(rng, &rows)?;
+impl Making<'_> {
+    /// The first is offered a part of the second's rows, or all of them. Rows of its own the second would not have.
+    fn second_first(&mut self, rng: &mut Rng) -> Check {
+        self.second.calls(rng, &self.universe.rows)?;
+        let rows = self.second.offered();
+        self.first.seal_nothing();
+        if rng.once_in(2) {
+            self.first.calls(rng, &rows)?;
+        }
+        let rows = match rng.once_in(2) {
+            true => rows,
+            false => some(rng, rows),
+        };
+        self.first.deliver(rng, rows)
     }
-    let mut rows = first.offered();
-    rows.retain(|row| !second.desk.offers.rows.contains(row));
-    deliver_rest(rng, second, rows, more)
-}
 
-/// The second is offered these rows; where the first is to have more, some of them.
-fn deliver_rest(rng: &mut Rng, second: &mut List, rows: Vec<Row>, more: bool) -> Check {
-    let rows = match more {
-        true => some(rng, rows),
-        false => rows,
-    };
-    second.deliver(rng, rows)
+    /// The second is offered all rows of the first, and maybe others.
+    fn first_first(&mut self, rng: &mut Rng) -> Check {
+        self.first.calls(rng, &self.universe.rows)?;
+        if rng.once_in(2) {
+            self.second.calls(rng, &self.universe.rows)?;
+        }
+        let rows = self.first.offered();
+        self.deliver_rest(rng, rows)
+    }
+
+    /// Each is offered rows of the universe and of the other, and at the end the second all of the first.
+    fn in_turns(&mut self, rng: &mut Rng) -> Check {
+        for _ in 0..2 {
+            let rows = [&self.universe.rows[..], &self.second.offered()].concat();
+            self.first.calls(rng, &rows)?;
+            let rows = [&self.universe.rows[..], &self.first.offered()].concat();
+            self.second.calls(rng, &rows)?;
+        }
+        let mut rows = self.first.offered();
+        rows.retain(|row| !self.second.desk.offers.rows.contains(row));
+        self.deliver_rest(rng, rows)
+    }
+
+    /// The second is offered these rows; where the first is to have more, some of them.
+    fn deliver_rest(&mut self, rng: &mut Rng, rows: Vec<Row>) -> Check {
+        let rows = match self.more {
+            true => some(rng, rows),
+            false => rows,
+        };
+        self.second.deliver(rng, rows)
+    }
 }
 
 fn some(rng: &mut Rng, mut rows: Vec<Row>) -> Vec<Row> {
