@@ -29,9 +29,9 @@ use Rattle.merging.proofs.SortedLists.{sorted-sublist, sorted-unique}
 use Rattle.merging.proofs.RowOrders.{log-trans, log-irrefl}
 use Rattle.merging.proofs.CausalListings.{listed-offered, listed-until}
 use Rattle.merging.proofs.RowLists.{unexpired-rows, sorted-unexpired, same-quotas}
-use Rattle.merging.proofs.Invariant.{Inv, weaker, listed-low, low-listed, all-admitted}
+use Rattle.merging.proofs.Invariant.{AllValid, Inv, weaker, listed-low, low-listed, all-admitted}
 use Rattle.merging.proofs.Sealings.{row-sealed}
-use Rattle.merging.proofs.StoreRuns.{Run, start, batch, floor, seal, Ended, AllValid, valid-offers, ended-start, batch-row, more-offers, ended-settled, ended-batch, keeps-seal, one-part, good}
+use Rattle.merging.proofs.StoreRuns.{Run, start, batch, floor, seal, Ended, valid-offers, ended-start, batch-row, more-offers, ended-settled, ended-batch, keeps-seal, one-part, good}
 use Rattle.merging.proofs.StoreAgreement.{follows, agree}
 use Rattle.merging.proofs.Watermarks.{Marked, marks-many, settle-marked, run-marked}
 use Rattle.merging.proofs.AreasToStores.{Reaches, merges-here, batch-holds}

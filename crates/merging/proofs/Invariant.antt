@@ -36,6 +36,9 @@ pub record Valid (r : Row) : Type 0 where
   pub first : 0 < r .seq
   pub own : r .stamp .«actor_id» .0 ≡ r .author
 
+abbrev pub AllValid : List Row → Type 0
+AllValid o = (y : Row) → List·Memᴰ y o → Valid y
+
 -- `o` what is offered, `p` the part of it that is admitted, `c` the clock, `ls` a causal listing of the logged rows, `g` the log, `w` the held rows
 pub record Inv (o p : List Row) (c : List (ℕ × ℕ)) (ls g w : List Row) : Type 0 where
   pub listing : CausalListing o ls
@@ -84,7 +87,7 @@ count-insert : (a : ℕ) (r : Row) (g : List Row) → count a (insertRow r g) �
 unfolding count
 count-insert a r g = rw (insert-place r g) (count-place (λ (x : Row). eqb (x .author) a) (older r) r g)
 
-module _ (o : List Row) (one : OneContent o) (valid : (y : Row) → List·Memᴰ y o → Valid y) where
+module _ (o : List Row) (one : OneContent o) (valid : AllValid o) where
   module _ {p : List Row} {c : List (ℕ × ℕ)} {ls g w : List Row} (i : Inv o p c ls g w) where
     -- and an offered row at or below the clock is listed
     pub low-listed : (x : Row) → List·Memᴰ x o → x .seq ≤ get c (x .author) → List·Memᴰ x ls

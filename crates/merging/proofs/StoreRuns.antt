@@ -29,7 +29,7 @@ use Rattle.merging.proofs.CausalListings.{count-none, last-self, last-c
 use Rattle.merging.proofs.RowLists.{goesBefore, unexpired-all}
 use Rattle.merging.proofs.DrainInduction.{Idle, taken-place, ready-seq, ready-deps, is-ready, settle-every}
 use Rattle.merging.proofs.Admission.{admit-every}
-use Rattle.merging.proofs.Invariant.{Valid, Inv, weaker, keeps-log, keeps-new, keeps-admits, settles}
+use Rattle.merging.proofs.Invariant.{Valid, AllValid, Inv, weaker, keeps-log, keeps-new, keeps-admits, settles}
 use Rattle.merging.proofs.ClockLaws.{get-others, get-member}
 use Rattle.merging.proofs.Sealings.{Seals, row-sealed}
 use Rattle.log.specs.Insertion.{insertRow, insert, insertAll}
@@ -67,10 +67,6 @@ pub record Ended (o p : List Row) (s : Store) : Type 0 where
 pub record Good (o : List Row) (t : List Accepted) (s : Store) : Type 0 where
   pub ended : Ended o o s
   pub arrivals : (h : HeldRow) → List·Memᴰ h (s .held) → Arrived t h
-
--- each row is one that 5 and 6 let in
-abbrev pub AllValid : List Row → Type 0
-AllValid o = (y : Row) → List·Memᴰ y o → Valid y
 
 -- ---- refusals 5 and 6
 
