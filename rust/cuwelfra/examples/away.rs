@@ -83,6 +83,7 @@ fn row(author: u64, seq: u64) -> Row {
     Row::new(stamp, seq, "Kette = chain")
 }
 
+/// A server and a desk that was away for two hours, where rows may wait for one.
 pub fn main() -> Result<(), Refusal> {
     // At the server no row expires, however late the batches come. Author 1's rows are logged; author 2's second waits.
     let mut server = Site::new(8, u64::MAX)?;
@@ -97,12 +98,20 @@ pub fn main() -> Result<(), Refusal> {
     assert_eq!(desk.take_in(2 * HOUR, &[row(1, 3), row(2, 2)])?.held, 2);
     let back = desk.take_in(4 * HOUR, &[row(1, 1)])?;
     assert_eq!((back.applied, back.expired, back.held), (1, 2, 0));
+
+    // It writes a row of its own. The server gets that first.
+    let prepared = desk
+        .store
+        .prepare(&mut desk.clock, 5 * HOUR, 0, "Rad = wheel")?;
+    desk.store.seal(&prepared.bytes, [])?;
+    let own = desk.store.delta(&server.store.clock()?)?.rows()?;
+    assert_eq!(server.take_in(10 * HOUR, &own)?.applied, 1);
     assert!(!caught_up(&server.store, &desk.store)?);
 
     // 99 rows are missing from its log, and the server holds one: two batches. They may come hours apart.
     let batches = catch_up(&server.store, &desk.store.clock()?)?.unwrap_or_default();
     assert_eq!(batches.iter().map(Vec::len).collect::<Vec<_>>(), [36, 64]);
-    for (hours, rows) in (10..).step_by(5).zip(&batches) {
+    for (hours, rows) in (11..).step_by(5).zip(&batches) {
         desk.take_in(hours * HOUR, rows)?;
     }
     assert!(caught_up(&server.store, &desk.store)?);
