@@ -2,23 +2,17 @@
 -- logged and stays held; one is prepared and sealed at its desk, and comes to the other in a batch. One batch and one sealing are refused, and one call sets the
 -- floor.
 use mathlib.Core.Option.{none, some}
-use Prim.Native.Nat.{ℕ, _+_, _^_}
+use Prim.Native.Nat.{ℕ}
 use mathlib.Core.Path.{_≡_, refl, _∙_, sym, ap}
 use mathlib.Core.Logic.{inl, inr}
-use mathlib.Core.Bool.{Bool, true, false, not, _&&_, _||_}
-use mathlib.Core.List.{List, [], _∷_, _++_, List·Memᴰ, List·Memᴰ·head, List·Memᴰ·tail, List·Memᴰ·not-nil, List·Memᴰ·cases-cons}
+use mathlib.Core.List.{List, [], _∷_, _++_, List·Memᴰ, List·Memᴰ·not-nil, List·Memᴰ·cases-cons}
 use native.Mathlib.Omega.{arith}
 use lib.ListN.{replicate, take}
-use lib.Dec.{ltb, leb, eqb}
-use borrow.Author.Tests.{ltb-true, leb-true, eqb-true, eq-eqb}
 use Rattle.words.specs.Be.{bes, get64, column}
 use Rattle.words.specs.Areas.{pad, putAt}
-use Rattle.words.proofs.Words.{test}
-use Rattle.words.proofs.Conjunction.{and-left, and-right, and-both}
 use Rattle.error.specs.declared.Refusal.the-variants.{OtherCauses}
-use Rattle.error.specs.Answer.{Answer, done}
+use Rattle.error.specs.Answer.{done}
 use Rattle.clock.specs.Entries.{rising}
-use Rattle.clock.proofs.LexicographicOrder.{clash}
 use Rattle.clock.specs.Hlc.{greater, sendEvent}
 use Rattle.clock.specs.Hybrid.{nowCall, issueAt}
 use Rattle.clock.specs.Vector.{pairs, authorsOf, numbersOf, zeros, entries, clockOf, sound}
@@ -30,21 +24,19 @@ use Rattle.row.specs.Unsigned.{readUnsigned}
 use Rattle.row.specs.Wire.{stampedBytes, pairBytes, depsBytes, unsignedBytes}
 use Rattle.row.specs.Slots.{encodeSlots, slotsAt}
 use Rattle.row.proofs.ListTests.{list-bytes}
-use Rattle.log.specs.Store.{MaybeStamp, Store, derive, neverFalls, sameId, heldRise, noTwice, marksRise, floorOk, clockOk, rules}
+use Rattle.log.specs.Store.{MaybeStamp, Store, derive, neverFalls, heldRise, noTwice, marksRise, floorOk, clockOk, rules}
 use Rattle.log.specs.Calls.{readClock}
 use Rattle.log.specs.Areas.{Areas, areas, capacity, floorWords, encodeMarks, loggedRows, logBytes, heldBytes, headBytes, rowsOf, stampAt, floorAt, marksAt, decodeStore, countsOk, holds, soundAreas, longEnough, readStore}
-use Rattle.merging.specs.Merging.{sameContent}
 use Rattle.merging.specs.Calls.{BatchCall, raiseFloor}
 use Rattle.merging.specs.Desk.{PrepareCall, tooLarge, nextSeq, prepareAnswer, prepareEnds, prepareCall, signed, readSealed, sealRow, writable, sealTests}
 use Rattle.merging.specs.OwnRows.{CanPrepare, bytesToSign}
-use Rattle.merging.specs.Offers.{Call, Given, AllGiven, AllMayStand, Empty, batchRows, offered, Accepted, accepted, Spans, OneContent, Within, Converges}
+use Rattle.merging.specs.Offers.{Call, AllGiven, AllMayStand, Empty, batchRows, offered, Accepted, accepted, Spans, OneContent, Within, Converges}
 use Rattle.merging.specs.Group.{own, stampOf, rowOf, held, emptyStore, r21}
 use Rattle.merging.proofs.Examples.{limits, r11, computing, reading}
-use Rattle.merging.proofs.RulesKept.{all-every}
-use Rattle.merging.proofs.RowContent.{one-row}
 use Rattle.merging.proofs.Convergence.{convergence}
 use Rattle.merging.proofs.OwnRows.{own-may-stand, refused-may-stand}
 use Rattle.merging.proofs.CallTraces.{answerOn, sealOn, Trace, trace, Traces, traced, StandsOn, AllStandOn, all-stand, refused-on}
+use Rattle.merging.proofs.ConditionTests.{canMake, given-tested, oneContent, one-tested, spanning, spans-tested, has, within-tested, done-same}
 use Rattle.words.specs.Lists.{all}
 
 -- ---- the calls
@@ -180,21 +172,6 @@ room = refl
 pub empty : Empty blank
 empty = record { store = emptyStore none; holds = blank-reads; log = refl; held = refl; clock = refl; marks = refl }
 
--- a call can be made, tested
-unfoldable pub canMake : Call → Bool
-canMake (Call.batch j c) = ltb (c .time) (2 ^ 64) && byteList (c .batch)
-canMake (Call.floor t) = stampOk t
-canMake (Call.seal bytes signature) = byteList bytes && byteList signature
-
-pub given-tested : (cs : List Call) → all canMake cs ≡ true → AllGiven cs
-unfolding canMake
-given-tested cs t c m = by-call c (all-every canMake cs t c m)
-  where
-    by-call : (c : Call) → canMake c ≡ true → Given c
-    by-call (Call.batch j c) h = (ltb-true _ _ (and-left _ _ h), list-bytes (c .batch) (and-right (ltb (c .time) (2 ^ 64)) _ h))
-    by-call (Call.floor t) h = h
-    by-call (Call.seal bytes signature) h = (list-bytes bytes (and-left _ _ h), list-bytes signature (and-right (byteList bytes) _ h))
-
 given₁ : AllGiven calls₁
 unfolding canMake all byteList
 given₁ = given-tested calls₁ refl
@@ -265,34 +242,9 @@ stand₂ =
     all-stand 4 calls₂ given₂ blank (emptyStore none) blank-reads room []
     (λ _ _ _. tt, (λ _ _ _. tt, (seals-own, (seals-again, (λ _ _ _. tt, (λ _ _ _. tt, tt))))))
 
-same-id : (r s : Row) → r .author ≡ s .author → r .seq ≡ s .seq → sameId r s ≡ true
-unfolding sameId
-same-id r s a q = and-both _ _ (eq-eqb _ _ a) (eq-eqb _ _ q)
-
--- rows of one author and sequence are one row, tested
-unfoldable pub oneContent : List Row → Bool
-oneContent rows = all (λ r. all (λ s. not (sameId r s) || sameContent r s) rows) rows
-
-pub one-tested : (rows : List Row) → oneContent rows ≡ true → OneContent rows
-unfolding oneContent
-one-tested rows t r s m n a q =
-    let h : not (sameId r s) || sameContent r s ≡ true = all-every _ rows (all-every (λ r. all (λ s. not (sameId r s) || sameContent r s) rows) rows t r m) s n in
-    one-row r s .0 (a, q, rw (same-id r s a q) at h)
-
 one : OneContent (offered blank calls₁ ++ offered blank calls₂)
 unfolding computing oneContent all
 one = rw (traces₁ .offers, traces₂ .offers) (one-tested _ refl)
-
--- times within each age, tested
-unfoldable pub spanning : List Accepted → Bool
-spanning xs = all (λ x. all (λ y. all (λ z. leb (x .time) (y .time + z .age)) xs) xs) xs
-
-pub spans-tested : (xs : List Accepted) → spanning xs ≡ true → Spans xs
-unfolding spanning
-spans-tested xs t x y z i j k =
-    let over = all-every (λ x. all (λ y. all (λ z. leb (x .time) (y .time + z .age)) xs) xs) xs t x i in
-    let from = all-every (λ y. all (λ z. leb (x .time) (y .time + z .age)) xs) xs over y j in
-    omega (arith, leb-true (x .time) (y .time + z .age) (all-every (λ z. leb (x .time) (y .time + z .age)) xs from z k))
 
 spans₁ : Spans (accepted blank calls₁)
 unfolding spanning all
@@ -307,24 +259,6 @@ spans₂ = rw (traces₂ .accepts) (spans-tested _ refl)
 pub converges : Converges blank blank calls₁ calls₂
 converges = convergence blank blank calls₁ calls₂ given₁ given₂ empty empty stand₁ stand₂ one spans₁ spans₂
 
--- the two lists offer the same rows, tested
-unfoldable pub has : Row → List Row → Bool
-has r [] = false
-has r (s ∷ rows) = (sameId r s && sameContent r s) || has r rows
-
-pub has-there : (r : Row) (rows : List Row) → has r rows ≡ true → List·Memᴰ r rows
-unfolding has sameId
-has-there r [] t = absurd (clash t refl)
-has-there r (s ∷ rows) t = elim (test (sameId r s && sameContent r s)) [
-  | inl h ↦
-      let k = and-left (sameId r s) _ h in
-      List·Memᴰ·head (one-row r s .0 (eqb-true _ _ (and-left _ _ k), eqb-true _ _ (and-right (eqb (r .author) (s .author)) _ k), and-right (sameId r s) _ h))
-  | inr h ↦ List·Memᴰ·tail (has-there r rows (rw h at t))
-]
-
-pub within-tested : (few many : List Row) → all (λ r. has r many) few ≡ true → Within few many
-within-tested few many t r m = has-there r many (all-every (λ r. has r many) few t r m)
-
 to : Within (offered blank calls₁) (offered blank calls₂)
 unfolding computing has all
 to = rw (traces₁ .offers, traces₂ .offers) (within-tested _ _ refl)
@@ -332,10 +266,6 @@ to = rw (traces₁ .offers, traces₂ .offers) (within-tested _ _ refl)
 from : Within (offered blank calls₂) (offered blank calls₁)
 unfolding computing has all
 from = rw (traces₁ .offers, traces₂ .offers) (within-tested _ _ refl)
-
--- areas hold one store
-pub done-same : {s t : Store} → _≡_ {A = Answer Store} (done s) (done t) → s ≡ t
-done-same e = cc
 
 -- so their logs, clocks and held rows agree, and these are they
 pub record Shown : Type 0 where

@@ -1,12 +1,9 @@
 -- Ticket 13 on two lists of calls over bytes, so that nobody need believe that its hypotheses can be met. The second list is that of DemandInstance. The first is
 -- offered three of its five rows, and lets two of them expire. One batch catches up, and a later one lets the row expire again that no store can log.
 use mathlib.Core.Path.{_≡_, refl, _∙_, sym, ap}
-use mathlib.Core.Bool.{true, _||_}
-use mathlib.Core.Logic.{inl, inr}
 use mathlib.Core.Option.{none}
 use mathlib.Core.List.{List, [], _∷_, _++_, List·Memᴰ·head, List·Memᴰ·tail}
 use native.Mathlib.Omega.{arith}
-use Rattle.words.proofs.Words.{test}
 use Rattle.error.specs.Answer.{done}
 use Rattle.merging.specs.Batch.{readBatch}
 use Rattle.log.specs.Store.{Store}
@@ -18,11 +15,11 @@ use Rattle.merging.specs.Expiring.{AtAnyTimes, CarriesMissing, Equals, C
 use Rattle.merging.specs.Group.{stampOf, held, emptyStore, r21, own}
 use Rattle.merging.proofs.Examples.{r11, computing}
 use Rattle.merging.proofs.CallTraces.{Trace, trace, Traces, traced, AllStandOn, all-stand, accepts, accepted-on}
-use Rattle.merging.proofs.DemandInstance.{blank, r12, r22, r32, bytes11, bytes12, bytes21, bytes22, bytes32, bringing, bring, calls₂, at, trace₂, tracing, blank-reads, room, empty, canMake, given-tested, given₂, traces₂, stand₂, oneContent, one-tested, spans₂, has, has-there, within-tested, done-same}
-use Rattle.merging.proofs.RulesKept.{all-every}
+use Rattle.merging.proofs.ConditionTests.{canMake, given-tested, oneContent, one-tested, has, within-tested, carries-tested, done-same}
+use Rattle.merging.proofs.DemandInstance.{blank, r12, r22, r32, bytes11, bytes12, bytes21, bytes22, bytes32, bringing, bring, calls₂, at, trace₂, tracing, blank-reads, room, empty, given₂, traces₂, stand₂, spans₂}
 use Rattle.merging.proofs.Expiring.{catching-up}
 use Rattle.words.specs.Lists.{all}
-use Rattle.row.specs.Rows.{Row, byteList}
+use Rattle.row.specs.Rows.{byteList}
 
 -- ---- the calls
 
@@ -109,17 +106,6 @@ catches = catching-up blank blank late calls₂ at-any-times spans₂ within
 
 ends₁ : catches .store₁ ≡ lateTrace .store
 ends₁ = done-same (sym (catches .holds₁) ∙ traces .holds)
-
--- which rows a batch carries, tested
-pub carries-tested : (offers log rows : List Row) → all (λ r. has r log || has r rows) offers ≡ true → all (λ r. has r offers) rows ≡ true → CarriesMissing offers log rows
-carries-tested offers log rows every no-other =
-    record {
-      every = λ r m new. elim (test (has r log)) [
-        | inl h ↦ absurd (new (has-there r log h))
-        | inr h ↦ has-there r rows (rw h at (all-every (λ r. has r log || has r rows) offers every r m))
-      ];
-      no-other = within-tested rows offers no-other;
-    }
 
 brings : CarriesMissing (offered blank calls₂) (catches .store₁ .log) (rowsRead (readBatch (catchingCall .batch)))
 unfolding tracing has all

@@ -19,10 +19,11 @@ use Rattle.merging.specs.Offers.{Call, Given, AllGiven, afterCall, runCa
 use Rattle.merging.specs.Expiring.{AtAnyTimes, CarriesMissing, Equals}
 use Rattle.merging.specs.Group.{emptyStore, own}
 use Rattle.merging.proofs.CallTraces.{answerOn, trace, Traces, traced, AllStandOn, all-stand, accepts, accepted-on}
-use Rattle.merging.proofs.DemandInstance.{blank, bytes11, bytes12, bytes21, bytes22, bytes32, bringing, bring, calls₂, tracing, blank-reads, room, empty, canMake, given-tested, given₂, stand₂, oneContent, one-tested, spanning, spans-tested, spans₂, has, within-tested, done-same}
+use Rattle.merging.proofs.ConditionTests.{canMake, given-tested, oneContent, one-tested, spanning, spans-tested, has, within-tested, carries-tested, done-same}
+use Rattle.merging.proofs.DemandInstance.{blank, bytes11, bytes12, bytes21, bytes22, bytes32, bringing, bring, calls₂, tracing, blank-reads, room, empty, given₂, stand₂, spans₂}
 use Rattle.merging.proofs.Expiring.{catching-up, runs-last}
 use Rattle.merging.proofs.StoreRuns.{one-part}
-use Rattle.merging.proofs.ExpiringInstance.{late, given, stand, at-any-times, within, carries-tested}
+use Rattle.merging.proofs.ExpiringInstance.{late, given, stand, at-any-times, within}
 use Rattle.words.specs.Lists.{all}
 
 -- ---- what ticket 13 says of the batch that catches up, under any conditions on the lists and on the batch

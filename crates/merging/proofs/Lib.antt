@@ -21,6 +21,7 @@ pub mod OwnRows
 pub mod Convergence
 pub mod Expiring
 pub mod CallTraces
+pub mod ConditionTests
 pub mod DemandInstance
 pub mod ExpiringInstance
 pub mod ExpiringNeeds
