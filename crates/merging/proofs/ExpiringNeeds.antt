@@ -1,6 +1,6 @@
 -- Each condition of ticket 13 is needed: without it what the ticket says is false. For each there are two lists of calls over bytes that meet all the others, and a
 -- batch after which the stores differ.
-use Prim.Native.Nat.{ℕ, _+_}
+use Prim.Native.Nat.{ℕ}
 use mathlib.Core.Path.{_≡_, refl, _∙_, sym, ap}
 use mathlib.Core.Bool.{true}
 use mathlib.Core.Option.{none}
@@ -22,6 +22,7 @@ use Rattle.merging.proofs.CallTraces.{answerOn, trace, Traces, traced, 
 use Rattle.merging.proofs.ConditionTests.{canMake, given-tested, oneContent, one-tested, spanning, spans-tested, has, within-tested, carries-tested, done-same}
 use Rattle.merging.proofs.DemandInstance.{blank, bytes11, bytes12, bytes21, bytes22, bytes32, bringing, bring, calls₂, tracing, blank-reads, room, empty, given₂, stand₂, spans₂}
 use Rattle.merging.proofs.Expiring.{catching-up, runs-last}
+use Rattle.merging.proofs.RowLists.{rowBytes}
 use Rattle.merging.proofs.StoreRuns.{one-part}
 use Rattle.merging.proofs.ExpiringInstance.{late, given, stand, at-any-times, within}
 use Rattle.words.specs.Lists.{all}
@@ -175,12 +176,8 @@ otherFirst = bring 1000 (1 ∷ other11) ∷ []
 abbrev otherSecond : List Call
 otherSecond = bring 1000 (1 ∷ bytes11) ∷ bring 1000 (1 ∷ other11) ∷ []
 
-payloads : List Row → ℕ
-payloads [] = 0
-payloads (r ∷ rows) = length (r .payload) + payloads rows
-
 pub one-content-needed : Equalling twoContents asTicket → ⊥
-unfolding tracing accepts has all canMake byteList AllStandOn spanning payloads
+unfolding tracing accepts has all canMake byteList AllStandOn spanning rowBytes
 one-content-needed claim =
     let given₁ : AllGiven otherFirst = given-tested _ refl in
     let given₂ : AllGiven otherSecond = given-tested _ refl in
@@ -192,7 +189,7 @@ one-content-needed claim =
     let within : Within (offered blank otherFirst) (offered blank otherSecond) = rw (t₁ .offers, t₂ .offers) (within-tested _ _ refl) in
     let same = claimed twoContents asTicket claim otherFirst otherSecond (bringing 1000 (1 ∷ bytes11)) given₁ given₂ (given-tested _ refl)
     (given₁, given₂, empty, empty, stand₁, stand₂, spans, within) refl (carries-tested _ _ _ refl refl) in
-    let z : _≡_ {A = ℕ} 1 0 = ap payloads (same .log) in
+    let z : _≡_ {A = ℕ} 1 0 = ap rowBytes (same .log) in
     omega (arith, z)
 
 -- ---- the first's offers: it logs 1:1, which was not offered to the second

@@ -132,7 +132,7 @@ unfolding authors rowsOf
 held-authors [] = refl
 held-authors (h ∷ hs) = ap (λ (l : List ℕ). h .row .author ∷ l) (held-authors hs)
 
-rowBytes : List Row → ℕ
+unfoldable pub rowBytes : List Row → ℕ
 rowBytes [] = 0
 rowBytes (r ∷ rows) = length (r .payload) + rowBytes rows
 
