@@ -124,16 +124,16 @@ module _ (cap : ℕ) (cs : List Call)
       }
 
 -- a batch that is accepted on a store, tested
-unfoldable pub accepts : Answer Merged → Bool
-accepts (done m) = true
-accepts (refused r) = false
+unfoldable pub isAccepted : Answer Merged → Bool
+isAccepted (done m) = true
+isAccepted (refused r) = false
 
-pub accepted-on : (cap : ℕ) (s : Store) (j : HybridClock) (c : BatchCall) → accepts (answerOn cap s c) ≡ true
+pub accepted-on : (cap : ℕ) (s : Store) (j : HybridClock) (c : BatchCall) → isAccepted (answerOn cap s c) ≡ true
     → (a : Areas) → readStore a ≡ done s → capacity (a .log) ≡ cap → (x : DeltaReport) × (deltaCall a j c .answer ≡ done x)
-unfolding accepts batchCall batchEnds deltaCall deltaEnds
-accepted-on cap s j c t a h room = by-test (batchAnswer a c) (ap accepts (rw room at (answer-on a s h c)) ∙ t)
+unfolding isAccepted batchCall batchEnds deltaCall deltaEnds
+accepted-on cap s j c t a h room = by-test (batchAnswer a c) (ap isAccepted (rw room at (answer-on a s h c)) ∙ t)
   where
-    by-test : (x : Answer Merged) → accepts x ≡ true → (y : DeltaReport) × (endsBy a j c x .answer ≡ done y)
+    by-test : (x : Answer Merged) → isAccepted x ≡ true → (y : DeltaReport) × (endsBy a j c x .answer ≡ done y)
     by-test (done m) t = (_, refl)
     by-test (refused r) t = absurd (clash t refl)
 

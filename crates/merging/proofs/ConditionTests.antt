@@ -10,11 +10,10 @@ use borrow.Author.Tests.{ltb-true, leb-true, eqb-true, eq-eqb}
 use Rattle.words.specs.Lists.{all}
 use Rattle.words.proofs.Words.{test}
 use Rattle.words.proofs.Conjunction.{and-left, and-right, and-both}
-use Rattle.error.specs.Answer.{Answer, done}
 use Rattle.clock.proofs.LexicographicOrder.{clash}
 use Rattle.row.specs.Rows.{Row, byteList, stampOk}
 use Rattle.row.proofs.ListTests.{list-bytes}
-use Rattle.log.specs.Store.{Store, sameId}
+use Rattle.log.specs.Store.{sameId}
 use Rattle.merging.specs.Merging.{sameContent}
 use Rattle.merging.specs.Offers.{Call, Given, AllGiven, Accepted, Spans, OneContent, Within}
 use Rattle.merging.specs.Expiring.{CarriesMissing}
@@ -89,7 +88,3 @@ carries-tested offers log rows every no-other =
       ];
       no-other = within-tested rows offers no-other;
     }
-
--- areas hold one store
-pub done-same : {s t : Store} → _≡_ {A = Answer Store} (done s) (done t) → s ≡ t
-done-same e = cc

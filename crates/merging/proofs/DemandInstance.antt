@@ -35,8 +35,9 @@ use Rattle.merging.specs.Group.{own, stampOf, rowOf, held, emptyStore, r
 use Rattle.merging.proofs.Examples.{limits, r11, computing, reading}
 use Rattle.merging.proofs.Convergence.{convergence}
 use Rattle.merging.proofs.OwnRows.{own-may-stand, refused-may-stand}
+use Rattle.merging.proofs.Traces.{done-same}
 use Rattle.merging.proofs.CallTraces.{answerOn, sealOn, Trace, trace, Traces, traced, StandsOn, AllStandOn, all-stand, refused-on}
-use Rattle.merging.proofs.ConditionTests.{canMake, given-tested, oneContent, one-tested, spanning, spans-tested, has, within-tested, done-same}
+use Rattle.merging.proofs.ConditionTests.{canMake, given-tested, oneContent, one-tested, spanning, spans-tested, has, within-tested}
 use Rattle.words.specs.Lists.{all}
 
 -- ---- the calls

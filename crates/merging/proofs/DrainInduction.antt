@@ -13,6 +13,7 @@ use Rattle.clock.specs.Entries.{get, observe, dominates}
 use Rattle.row.specs.Rows.{Row, HeldRow}
 use Rattle.log.specs.Store.{Store}
 use Rattle.log.specs.Areas.{rowsOf}
+use Rattle.log.specs.Insertion.{insert, insertAll}
 use Rattle.merging.specs.Merging.{ready, FirstReady, noneReady, firstIs, past, firstReady, Admitted, Drained, toDrain, logging, dropping, takeFirst, drain, settle}
 use Rattle.merging.specs.Offers.{Sorted}
 use Rattle.merging.specs.Least.{Taken, here, there}
@@ -21,6 +22,7 @@ use Rattle.clock.proofs.LexicographicOrder.{clash}
 use Rattle.words.proofs.Conjunction.{and-left, and-right, and-both}
 use Rattle.merging.proofs.CausalListings.{last-cases}
 use Rattle.merging.proofs.SortedLists.{place}
+use Rattle.merging.proofs.RowLists.{rows-last, insert-last}
 
 -- ---- a list without one of its elements
 
@@ -200,3 +202,18 @@ settle-every Q s a f =
     (λ c w l d k rest e t q p. (λ h m. p .0 h (taken-rest t h m), λ h m. elim (last-cases l k m) [ inl x ↦ rw x (p .0 k (taken-self t)) | inr y ↦ p .1 h y ]))
     (λ c w l d k rest e t q p. (λ h m. p .0 h (taken-rest t h m), p .1))
     s a (f, λ h m. absurd (List·Memᴰ·not-nil m)) .0
+
+-- what inserting an author's next row keeps holds of the store with the logged rows inserted, and its clock is the one that draining ends with
+pub settled-store : (Q : Store → Type 0) → ((s : Store) (r : Row) → r .seq ≡ suc (get (s .clock) (r .author)) → Q s → Q (insert s r)) → (s : Store) (a : Admitted) → Q s
+    → (insertAll s (rowsOf (settle s a .logged)) .clock ≡ settle s a .clock) × Q (insertAll s (rowsOf (settle s a .logged)))
+unfolding insert insertAll rowsOf
+settled-store Q keeps s a h =
+    settled (λ c w l n. (insertAll s (rowsOf l) .clock ≡ c) × Q (insertAll s (rowsOf l)))
+    (λ c w l n k rest rd t e p.
+    let rows = rows-last l k in
+    let last = insert-last s (rowsOf l) (k .row) in (
+      rw (rows, last) (ap (λ (x : List (ℕ × ℕ)). observe x (k .row .author) (k .row .seq)) (p .0)),
+      rw (rows, last) (keeps (insertAll s (rowsOf l)) (k .row) (rw (p .0) e) (p .1)),
+    ))
+    (λ c w l n k rest rd t e p. p)
+    s a (refl, h) .0

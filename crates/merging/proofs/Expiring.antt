@@ -24,7 +24,7 @@ use Rattle.merging.specs.Calls.{BatchCall, batchAnswer, batchEnds, batch
 use Rattle.merging.specs.Delta.{DeltaReport, deltaEnds, deltaCall}
 use Rattle.merging.specs.Offers.{Call, Given, afterCall, runCalls, batchRows, rowsRead, offeredBy, offered, Accepted, accepted, Spans, OneContent, Within, logLess, Follows, Agree}
 use Rattle.merging.specs.Expiring.{AtAnyTimes, CarriesMissing, Equals, CatchesUp, Ticket13, AsWritten, Ticket13AsWritten, EnoughToSend, CatchUpAccepted, ClocksTell}
-use Rattle.merging.proofs.Traces.{not-refused, insert-held, merge-went, merge-goes, call-answered, answers-merge, endsBy}
+use Rattle.merging.proofs.Traces.{not-refused, done-same, insert-held, merge-went, merge-goes, call-answered, answers-merge, endsBy}
 use Rattle.merging.proofs.SortedLists.{sorted-sublist, sorted-unique}
 use Rattle.merging.proofs.RowOrders.{log-trans, log-irrefl}
 use Rattle.merging.proofs.CausalListings.{listed-offered, listed-until}
@@ -210,9 +210,18 @@ module _ (a₁ a₂ : Areas) (cs₁ cs₂ : List Call) (h : AtAnyTimes a₁ a₂
   loose₁ : Loose (offered a₁ cs₁) (r₁ .store)
   loose₁ = loose (r₁ .run) (one-part (λ y m. Memᴰ·append-left (offered a₂ cs₂) m) (h .one-content))
 
+  -- the same of the stores that are read
+  loose-at : (s₁ : Store) → readStore (runCalls a₁ cs₁) ≡ done s₁ → Loose (offered a₁ cs₁) s₁ × Marked s₁
+  loose-at s₁ reads =
+      let e = done-same (sym (r₁ .holds) ∙ reads) in
+      (rw e at loose₁, rw e at (run-marked (r₁ .run)))
+
   module _ (spans : Spans (accepted a₂ cs₂)) where
     ended₂ : Ended (offered a₂ cs₂) (offered a₂ cs₂) (r₂ .store)
     ended₂ = good (r₂ .run) one₂ spans .ended
+
+    ended-at : (s₂ : Store) → readStore (runCalls a₂ cs₂) ≡ done s₂ → Ended (offered a₂ cs₂) (offered a₂ cs₂) s₂
+    ended-at s₂ reads = rw (done-same (sym (r₂ .holds) ∙ reads)) at ended₂
 
     part-here : Within (offered a₁ cs₁) (offered a₂ cs₂) → Sublistᴰ (r₁ .store .log) (r₂ .store .log)
     part-here w = part-of loose₁ ended₂ one₂ (valid-offers (r₂ .run)) w
@@ -264,42 +273,33 @@ as-written a₁ a₂ cs₁ cs₂ h spans = in-its-words a₁ a₂ cs₁ cs₂ h 
 
 pub enough-to-send : EnoughToSend
 enough-to-send a₁ a₂ cs₁ cs₂ h spans w s₁ s₂ reads₁ reads₂ rows sent =
-    let q₁ = r₁ a₁ a₂ cs₁ cs₂ h in
-    let q₂ = r₂ a₁ a₂ cs₁ cs₂ h in
-    let e₁ : q₁ .store ≡ s₁ = cc (q₁ .holds) in
-    let e₂ : q₂ .store ≡ s₂ = cc (q₂ .holds) in
-    enough (rw e₁ at (loose₁ a₁ a₂ cs₁ cs₂ h)) (rw e₂ at (ended₂ a₁ a₂ cs₁ cs₂ h spans)) (one₂ a₁ a₂ cs₁ cs₂ h) (valid-offers (q₂ .run)) w sent
+    enough (loose-at a₁ a₂ cs₁ cs₂ h s₁ reads₁ .0) (ended-at a₁ a₂ cs₁ cs₂ h spans s₂ reads₂) (one₂ a₁ a₂ cs₁ cs₂ h) (valid-offers (r₂ a₁ a₂ cs₁ cs₂ h .run)) w sent
 
 pub catch-up-accepted : CatchUpAccepted
 unfolding deltaCall deltaEnds batchCall batchEnds
 catch-up-accepted a₁ a₂ cs₁ cs₂ h spans w s₁ s₂ reads₁ reads₂ j c rows limits brings room passes carries quota few =
-    let q₁ = r₁ a₁ a₂ cs₁ cs₂ h in
-    let q₂ = r₂ a₁ a₂ cs₁ cs₂ h in
-    let e₁ : q₁ .store ≡ s₁ = cc (q₁ .holds) in
-    let e₂ : q₂ .store ≡ s₂ = cc (q₂ .holds) in
-    let (m, e) = merges (rw e₁ at (loose₁ a₁ a₂ cs₁ cs₂ h)) (rw e₂ at (ended₂ a₁ a₂ cs₁ cs₂ h spans)) (one₂ a₁ a₂ cs₁ cs₂ h) (valid-offers (q₂ .run)) w
-    rows carries (c .limits) (c .time) _ passes quota few (clock-few (s₂ .clock) (kept s₂ (read-rules _ s₂ reads₂) .clock)) (rw e₁ at (run-marked (q₁ .run))) in
+    let (L, marked) = loose-at a₁ a₂ cs₁ cs₂ h s₁ reads₁ in
+    let (m, e) = merges L (ended-at a₁ a₂ cs₁ cs₂ h spans s₂ reads₂) (one₂ a₁ a₂ cs₁ cs₂ h) (valid-offers (r₂ a₁ a₂ cs₁ cs₂ h .run)) w
+    rows carries (c .limits) (c .time) _ passes quota few (clock-few (s₂ .clock) (kept s₂ (read-rules _ s₂ reads₂) .clock)) marked in
     (_, ap (λ (x : Answer Merged). endsBy (runCalls a₁ cs₁) j c x .answer) (answers-merge (runCalls a₁ cs₁) c s₁ rows limits reads₁ brings room ∙ e))
 
 -- with equal clocks each logs what the other does
-module _ {o : List Row} (one : OneContent o) (valid : AllValid o) {p₁ p₂ : List Row} {c : List (ℕ × ℕ)} {ls₁ ls₂ g₁ g₂ w₁ w₂ : List Row}
-    (i₁ : Inv o p₁ c ls₁ g₁ w₁) (i₂ : Inv o p₂ c ls₂ g₂ w₂) where
+module _ {o : List Row} (one : OneContent o) (valid : AllValid o) {p₁ p₂ : List Row} {c₁ c₂ : List (ℕ × ℕ)} {ls₁ ls₂ g₁ g₂ w₁ w₂ : List Row} (same : c₁ ≡ c₂)
+    (i₁ : Inv o p₁ c₁ ls₁ g₁ w₁) (i₂ : Inv o p₂ c₂ ls₂ g₂ w₂) where
   logged-there : Within g₁ g₂
   logged-there r m =
       let k = i₁ .log-listed r m in
-      i₂ .listed-log r (low-listed o one valid i₂ r (listed-offered (i₁ .listing) r k) (listed-low i₁ r k))
+      i₂ .listed-log r (low-listed o one valid i₂ r (listed-offered (i₁ .listing) r k) (rw same at (listed-low i₁ r k)))
 
 pub clocks-tell : ClocksTell
 clocks-tell a₁ a₂ cs₁ cs₂ h s₁ s₂ reads₁ reads₂ same =
     let q₁ = r₁ a₁ a₂ cs₁ cs₂ h in
     let q₂ = r₂ a₁ a₂ cs₁ cs₂ h in
-    let e₁ : q₁ .store ≡ s₁ = cc (q₁ .holds) in
-    let e₂ : q₂ .store ≡ s₂ = cc (q₂ .holds) in
-    let L₁ : Loose (offered a₁ cs₁) s₁ = rw e₁ at (loose₁ a₁ a₂ cs₁ cs₂ h) in
-    let L₂ : Loose (offered a₂ cs₂) s₂ = rw e₂ at (loose (q₂ .run) (one₂ a₁ a₂ cs₁ cs₂ h)) in
+    let L₁ = loose-at a₁ a₂ cs₁ cs₂ h s₁ reads₁ .0 in
+    let L₂ : Loose (offered a₂ cs₂) s₂ = rw (done-same (sym (q₂ .holds) ∙ reads₂)) at (loose (q₂ .run) (one₂ a₁ a₂ cs₁ cs₂ h)) in
     let valid : AllValid (offered a₁ cs₁ ++ offered a₂ cs₂) =
     λ y m. elim (List·Memᴰ·append-cases (offered a₁ cs₁) m) [ inl k ↦ valid-offers (q₁ .run) y k | inr k ↦ valid-offers (q₂ .run) y k ] in
-    let i₁ = rw same at (more-offers (λ y m. Memᴰ·append-left (offered a₂ cs₂) m) (L₁ .inv)) in
+    let i₁ = more-offers (λ y m. Memᴰ·append-left (offered a₂ cs₂) m) (L₁ .inv) in
     let i₂ = more-offers (λ y m. Memᴰ·append-right (offered a₁ cs₁) m) (L₂ .inv) in
     sorted-unique logLess log-trans log-irrefl (s₁ .log) (s₂ .log) (i₁ .log-sorted) (i₂ .log-sorted)
-    (logged-there (h .one-content) valid i₁ i₂) (logged-there (h .one-content) valid i₂ i₁)
+    (logged-there (h .one-content) valid same i₁ i₂) (logged-there (h .one-content) valid (sym same) i₂ i₁)

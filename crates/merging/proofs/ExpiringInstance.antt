@@ -14,8 +14,9 @@ use Rattle.merging.specs.Offers.{Call, AllGiven, AllMayStand, afterCall,
 use Rattle.merging.specs.Expiring.{AtAnyTimes, CarriesMissing, Equals, CatchesUp}
 use Rattle.merging.specs.Group.{stampOf, held, emptyStore, r21, own}
 use Rattle.merging.proofs.Examples.{r11, computing}
-use Rattle.merging.proofs.CallTraces.{Trace, trace, Traces, traced, AllStandOn, all-stand, accepts, accepted-on}
-use Rattle.merging.proofs.ConditionTests.{canMake, given-tested, oneContent, one-tested, has, within-tested, carries-tested, done-same}
+use Rattle.merging.proofs.Traces.{done-same}
+use Rattle.merging.proofs.CallTraces.{Trace, trace, Traces, traced, AllStandOn, all-stand, isAccepted, accepted-on}
+use Rattle.merging.proofs.ConditionTests.{canMake, given-tested, oneContent, one-tested, has, within-tested, carries-tested}
 use Rattle.merging.proofs.DemandInstance.{blank, r12, r22, r32, bytes11, bytes12, bytes21, bytes22, bytes32, bringing, bring, calls₂, at, trace₂, tracing, blank-reads, room, empty, given₂, traces₂, stand₂, spans₂}
 use Rattle.merging.proofs.Expiring.{catching-up}
 use Rattle.words.specs.Lists.{all}
@@ -112,7 +113,7 @@ unfolding tracing has all
 brings = rw (traces₂ .offers, ends₁) (carries-tested _ _ _ refl refl)
 
 taken : (x : DeltaReport) × (deltaCall (runCalls blank late) (own 5 0) catchingCall .answer ≡ done x)
-unfolding tracing accepts
+unfolding tracing isAccepted
 taken = accepted-on 4 (lateTrace .store) (own 5 0) catchingCall refl (runCalls blank late) (traces .holds) (traces .room ∙ room)
 
 pub caught-up : Equals (afterCall (runCalls blank late) catching) (catches .store₂)

@@ -18,8 +18,9 @@ use Rattle.merging.specs.Delta.{DeltaReport, deltaCall}
 use Rattle.merging.specs.Offers.{Call, Given, AllGiven, afterCall, runCalls, Empty, rowsRead, offered, accepted, Spans, OneContent, AllMayStand, Within}
 use Rattle.merging.specs.Expiring.{AtAnyTimes, CarriesMissing, Equals}
 use Rattle.merging.specs.Group.{emptyStore, own}
-use Rattle.merging.proofs.CallTraces.{answerOn, trace, Traces, traced, AllStandOn, all-stand, accepts, accepted-on}
-use Rattle.merging.proofs.ConditionTests.{canMake, given-tested, oneContent, one-tested, spanning, spans-tested, has, within-tested, carries-tested, done-same}
+use Rattle.merging.proofs.Traces.{done-same}
+use Rattle.merging.proofs.CallTraces.{answerOn, trace, Traces, traced, AllStandOn, all-stand, isAccepted, accepted-on}
+use Rattle.merging.proofs.ConditionTests.{canMake, given-tested, oneContent, one-tested, spanning, spans-tested, has, within-tested, carries-tested}
 use Rattle.merging.proofs.DemandInstance.{blank, bytes11, bytes12, bytes21, bytes22, bytes32, bringing, bring, calls₂, tracing, blank-reads, room, empty, given₂, stand₂, spans₂}
 use Rattle.merging.proofs.Expiring.{catching-up, runs-last}
 use Rattle.merging.proofs.RowLists.{rowBytes}
@@ -58,8 +59,8 @@ asTicket offers s rows = CarriesMissing offers (s .log) rows
 pub equalling : Equalling FairSecond asTicket
 equalling a₁ a₂ cs₁ cs₂ fair s₁ s₂ reads₁ reads₂ j c x given e carries =
     let u = catching-up a₁ a₂ cs₁ cs₂ (fair .lists) (fair .spans) (fair .within) in
-    let p₁ : u .store₁ ≡ s₁ = cc (u .holds₁) in
-    let p₂ : u .store₂ ≡ s₂ = cc (u .holds₂) in
+    let p₁ : u .store₁ ≡ s₁ = done-same (sym (u .holds₁) ∙ reads₁) in
+    let p₂ : u .store₂ ≡ s₂ = done-same (sym (u .holds₂) ∙ reads₂) in
     rw p₂ at (u .caught-up j c x given e (rw p₁ carries))
 
 -- ---- two lists on blank areas and a batch, computed
@@ -80,7 +81,7 @@ traces cs given = traced 4 cs given blank (emptyStore none) blank-reads room
 
 module _ (Lists : OnTwoLists) (Carries : OnBatch) (claim : Equalling Lists Carries)
     (cs₁ cs₂ : List Call) (c : BatchCall) (given₁ : AllGiven cs₁) (given₂ : AllGiven cs₂) (given : AllGiven (cs₁ ++ (joined c ∷ []))) where
-  claimed : Lists blank blank cs₁ cs₂ → accepts (answerOn 4 (ending cs₁) c) ≡ true
+  claimed : Lists blank blank cs₁ cs₂ → isAccepted (answerOn 4 (ending cs₁) c) ≡ true
       → Carries (trace 4 cs₂ (emptyStore none) .offers) (ending cs₁) (rowsRead (readBatch (c .batch)))
       → Alike (ending (cs₁ ++ (joined c ∷ []))) (ending cs₂)
   claimed lists took carries =
@@ -96,21 +97,17 @@ module _ (Lists : OnTwoLists) (Carries : OnBatch) (claim : Equalling Lists Carri
 none-given : AllGiven []
 none-given c m = absurd (List·Memᴰ·not-nil m)
 
--- lists of two lengths are not equal
-apart : {l m : List Row} → l ≡ m → (length l ≡ length m → ⊥) → ⊥
-apart e f = f (ap length e)
-
 -- ---- the rows that the first holds: 3:2 expires in the batch that does not carry it
 
 abbrev pub notHeld : OnBatch
 notHeld offers s rows = CarriesMissing offers (rowsOf (s .held) ++ s .log) rows
 
 pub held-needed : Equalling FairSecond notHeld → ⊥
-unfolding tracing accepts has all canMake byteList
+unfolding tracing isAccepted has all canMake byteList
 held-needed claim =
     let same = claimed FairSecond notHeld claim late calls₂ (bringing 3000 (3 ∷ bytes22 ++ bytes21 ++ bytes12)) given given₂ (given-tested _ refl)
     (record { lists = at-any-times; spans = spans₂; within = within }) refl (carries-tested _ _ _ refl refl) in
-    apart (same .held) (λ z. omega (arith, z))
+    omega (arith, ap length (same .held))
 
 -- ---- no other row: the first holds 3:2, which was not offered to the second
 
@@ -131,12 +128,12 @@ empty-lists =
     }
 
 pub no-other-needed : Equalling FairSecond anyOther → ⊥
-unfolding tracing accepts all canMake byteList offered accepted
+unfolding tracing isAccepted all canMake byteList offered accepted
 no-other-needed claim =
     let same = claimed FairSecond anyOther claim [] [] (bringing 1000 (1 ∷ bytes32)) none-given none-given (given-tested _ refl)
     (record { lists = empty-lists; spans = λ x y z m. absurd (List·Memᴰ·not-nil m); within = λ r m. m }) refl
     (λ r m. absurd (List·Memᴰ·not-nil m)) in
-    apart (same .held) (λ z. omega (arith, z))
+    omega (arith, ap length (same .held))
 
 -- ---- the limit on the second's times: it let 2:1 expire, and the first logs it
 
@@ -144,7 +141,7 @@ abbrev pub anyTimes : OnTwoLists
 anyTimes a₁ a₂ cs₁ cs₂ = AtAnyTimes a₁ a₂ cs₁ cs₂ × Within (offered a₁ cs₁) (offered a₂ cs₂)
 
 pub limit-needed : Equalling anyTimes asTicket → ⊥
-unfolding tracing accepts has all canMake byteList offered
+unfolding tracing isAccepted has all canMake byteList offered
 limit-needed claim =
     let lists : AtAnyTimes blank blank [] late =
     record {
@@ -158,7 +155,7 @@ limit-needed claim =
     } in
     let same = claimed anyTimes asTicket claim [] late (bringing 3000 (3 ∷ bytes21 ++ bytes32 ++ bytes11)) none-given given (given-tested _ refl)
     (lists, λ r m. absurd (List·Memᴰ·not-nil m)) refl (carries-tested _ _ _ refl refl) in
-    apart (same .log) (λ z. omega (arith, z))
+    omega (arith, ap length (same .log))
 
 -- ---- one content: 1:1 has another payload at the first, and comes to each after its own
 
@@ -177,7 +174,7 @@ abbrev otherSecond : List Call
 otherSecond = bring 1000 (1 ∷ bytes11) ∷ bring 1000 (1 ∷ other11) ∷ []
 
 pub one-content-needed : Equalling twoContents asTicket → ⊥
-unfolding tracing accepts has all canMake byteList AllStandOn spanning rowBytes
+unfolding tracing isAccepted has all canMake byteList AllStandOn spanning rowBytes
 one-content-needed claim =
     let given₁ : AllGiven otherFirst = given-tested _ refl in
     let given₂ : AllGiven otherSecond = given-tested _ refl in
@@ -201,7 +198,7 @@ abbrev alone11 : List Call
 alone11 = bring 1000 (1 ∷ bytes11) ∷ []
 
 pub within-needed : Equalling anyOffers asTicket → ⊥
-unfolding tracing accepts has all canMake byteList AllStandOn offered accepted oneContent
+unfolding tracing isAccepted has all canMake byteList AllStandOn offered accepted oneContent
 within-needed claim =
     let given₁ : AllGiven alone11 = given-tested _ refl in
     let lists : AtAnyTimes blank blank alone11 [] =
@@ -216,7 +213,7 @@ within-needed claim =
     } in
     let same = claimed anyOffers asTicket claim alone11 [] (bringing 1000 (0 ∷ [])) given₁ none-given (given-tested _ refl)
     (lists, λ x y z m. absurd (List·Memᴰ·not-nil m)) refl (carries-tested _ _ _ refl refl) in
-    apart (same .log) (λ z. omega (arith, z))
+    omega (arith, ap length (same .log))
 
 -- ---- sealings that ticket 1 lets stand: the second seals 2:1 when it holds 2:2, which then stays held
 
@@ -233,7 +230,7 @@ abbrev sealedLate : List Call
 sealedLate = bring 1000 (1 ∷ bytes22) ∷ Call.seal unsigned21 [] ∷ []
 
 pub sealings-needed : Equalling anySealings asTicket → ⊥
-unfolding tracing accepts has all canMake byteList offered oneContent spanning
+unfolding tracing isAccepted has all canMake byteList offered oneContent spanning
 sealings-needed claim =
     let given₂ : AllGiven sealedLate = given-tested _ refl in
     let t₂ = traces sealedLate given₂ in
@@ -242,4 +239,4 @@ sealings-needed claim =
     let same = claimed anySealings asTicket claim [] sealedLate (bringing 1000 (2 ∷ unsigned21 ++ (0 ∷ 1 ∷ 0 ∷ 0 ∷ []) ++ bytes22)) none-given given₂
     (given-tested _ refl) (none-given, given₂, empty, empty, AllMayStand.none, one, spans, λ r m. absurd (List·Memᴰ·not-nil m)) refl
     (carries-tested _ _ _ refl refl) in
-    apart (same .log) (λ z. omega (arith, z))
+    omega (arith, ap length (same .log))

@@ -223,10 +223,9 @@ module _ (o : List Row) (one : OneContent o) (valid : AllValid o) where
         let (r, f) = all-admitted rows (λ y m. sub y (List·Memᴰ·tail m)) (p ++ (b .row ∷ [])) x (keeps-admit p a b x bo (admits c time a b x e) i) in
         (r, rw e f)
 
-  -- the working rows are drained: the clock is that of the store with the logged rows inserted, and nothing is dropped
+  -- the working rows are drained, and nothing is dropped
   pub record Settled (p : List Row) (s : Store) (ls : List Row) (c : List (ℕ × ℕ)) (w l : List HeldRow) (dropped : ℕ) : Type 0 where
     pub inv : Inv o p c (ls ++ rowsOf l) (insertAll s (rowsOf l) .log) (rowsOf w)
-    pub clock-is : insertAll s (rowsOf l) .clock ≡ c
     pub none-dropped : dropped ≡ 0
 
   module _ (p : List Row) (s : Store) (ls : List Row) where
@@ -239,7 +238,6 @@ module _ (o : List Row) (one : OneContent o) (valid : AllValid o) where
         let store = insert-last s (rowsOf l) (h .row) in
         record {
           inv = rw (rows, store, ← (append-assoc ls (rowsOf l) (h .row ∷ []))) i;
-          clock-is = rw (rows, store) (ap (λ (x : List (ℕ × ℕ)). observe x (h .row .author) (h .row .seq)) (k .clock-is));
           none-dropped = k .none-dropped;
         }
 
@@ -249,4 +247,4 @@ module _ (o : List Row) (one : OneContent o) (valid : AllValid o) where
         settled (Settled p s ls) settles-log
         (λ c w l d h rest rd t ne k. absurd (ne (is-next (k .inv) (h .row) rd (taken-rows t))))
         s a
-        (record { inv = rw (append-nil ls) i; clock-is = refl; none-dropped = refl })
+        (record { inv = rw (append-nil ls) i; none-dropped = refl })

@@ -27,7 +27,7 @@ use Rattle.merging.specs.Offers.{batchRows, Accepted, Spans, OneContent,
 use Rattle.merging.proofs.Traces.{not-refused, each-passes, insert-held, merge-went}
 use Rattle.merging.proofs.CausalListings.{count-none, last-self, last-cases}
 use Rattle.merging.proofs.RowLists.{goesBefore, unexpired-all}
-use Rattle.merging.proofs.DrainInduction.{Idle, taken-place, ready-seq, ready-deps, is-ready, settle-every}
+use Rattle.merging.proofs.DrainInduction.{Idle, taken-place, ready-seq, ready-deps, is-ready, settle-every, settled-store}
 use Rattle.merging.proofs.Admission.{admit-every}
 use Rattle.merging.proofs.Invariant.{Valid, AllValid, Inv, weaker, keeps-log, keeps-new, keeps-admits, settles}
 use Rattle.merging.proofs.ClockLaws.{get-others, get-member}
@@ -154,11 +154,12 @@ module _ {o p : List Row} (one : OneContent o) (valid : AllValid o) (s : Store) 
       let base : Store =
       record { log = s .log; held = d .waiting; floor = s .floor; clock = s .clock; compacted = s .compacted; marks = s .marks } in
       let ends = settles o one valid (p ++ batchRows rows) base ls a working in
+      let clock : insertAll base (rowsOf (d .logged)) .clock ≡ d .clock = settled-store (λ s. Unit) (λ s r e u. u) base a tt .0 in
       let held : insertAll base (rowsOf (d .logged)) .held ≡ d .waiting = insert-held base (rowsOf (d .logged)) in
       record {
         listing = ls ++ rowsOf (d .logged);
-        inv = rw (ends .0 .clock-is, held) (ends .0 .inv);
-        idle = rw (ends .0 .clock-is, held) (ends .1);
+        inv = rw (clock, held) (ends .0 .inv);
+        idle = rw (clock, held) (ends .1);
       }
 
   pub ended-batch : (cap : ℕ) (m : Merged) → merge cap l time s rows ≡ done m → Ended o (p ++ batchRows rows) (m .store)

@@ -7,7 +7,7 @@ use mathlib.Core.List.{List, [], _∷_, List·Memᴰ, List·Memᴰ·not-nil, Lis
 use native.Mathlib.Omega.{arith}
 use lib.ListN.{length}
 use lib.Dec.{leb, eqb}
-use borrow.Author.Tests.{leb-true, le-leb}
+use borrow.Author.Tests.{leb-true}
 use Rattle.error.specs.declared.Refusal.{Refusal}
 use Rattle.words.specs.Names.{Time}
 use Rattle.error.specs.Answer.{Answer, done, refused, andThen, unless, nothing, Ends, Got, got, bad}
@@ -16,6 +16,7 @@ use Rattle.row.specs.Rows.{Row}
 use Rattle.row.specs.Reading.{BatchRow}
 use Rattle.log.specs.Store.{Store}
 use Rattle.log.specs.Areas.{Areas, capacity, readStore}
+use Rattle.log.proofs.calls.Changes as changes
 use Rattle.merging.specs.Batch.{Limits, limitsOk, whole, readBatch, validate, validateAll}
 use Rattle.merging.specs.Merging.{staying, Admitted, starting, admitAll, Drained, lines, report, quotas, Merged, commit, settle, finish, merge}
 use Rattle.merging.specs.Calls.{BatchCall, roomFor, batchAnswer, batchEnds}
@@ -28,6 +29,10 @@ pub not-refused : {A : Type 0} {r : Refusal} {a : A} → refused r ≡ done a �
 not-refused {r = r} {a = a} e =
     let z : _≡_ {A = ℕ} 0 1 = cc in
     omega arith
+
+-- and is of one value
+pub done-same : {A : Type 0} {a b : A} → _≡_ {A = Answer A} (done a) (done b) → a ≡ b
+done-same e = cc
 
 pub unless-done : {A : Type 0} (test : Bool) (r : Refusal) (x : Answer A) {a : A} → unless test r x ≡ done a → (test ≡ true) × (x ≡ done a)
 unless-done true r x e = (refl, e)
@@ -65,10 +70,6 @@ fits-done cap s {t} e =
     let (u, v) = unless-done (leb (length (s .clock)) 32 && leb (length (s .marks)) 32) _ _ q in
     let (x, y) = both (leb (length (s .clock)) 32) _ u in
     (cc, record { log = leb-true _ _ p; clock = leb-true _ _ x; marks = leb-true _ _ y })
-
-pub fits-there : (cap : ℕ) (s : Store) → Fits cap s → fits cap s ≡ done s
-unfolding fits
-fits-there cap s f = rw (le-leb _ _ (f .log), le-leb _ _ (f .clock), le-leb _ _ (f .marks))
 
 -- inserting rows leaves the held ones
 pub insert-held : (s : Store) (rows : List Row) → insertAll s rows .held ≡ s .held
@@ -108,7 +109,7 @@ unfolding merge finish
 merge-goes cap l time s rows a valid admits quota within =
     let d : Drained = settle s a in (
       record { store = commit s d; report = report s (staying l time s) a d; lines = lines (s .floor) (d .logged) },
-      rw (valid, admits, quota, fits-there cap (commit s d) within),
+      rw (valid, admits, quota, changes.fits-done cap (commit s d) (within .log) (within .clock) (within .marks)),
     )
 
 pub call-answered : CallAnswered

@@ -8,17 +8,15 @@ use lib.ListN.{length, length-map}
 use Rattle.words.specs.Choice.{pick}
 use Rattle.words.proofs.Words.{test}
 use Rattle.clock.specs.declared.stamp.Timestamp.{Timestamp}
-use Rattle.clock.specs.Entries.{get, put, observe}
+use Rattle.clock.specs.Entries.{get, put}
 use Rattle.row.specs.Rows.{Row}
 use Rattle.log.specs.Store.{Mark, Store}
-use Rattle.log.specs.Areas.{rowsOf}
-use Rattle.log.specs.Insertion.{raise, insert, insertAll}
-use Rattle.merging.specs.Merging.{Admitted, Drained, settle, commit}
+use Rattle.log.specs.Insertion.{raise, insert}
+use Rattle.merging.specs.Merging.{Admitted, settle, commit}
 use Rattle.merging.specs.Offers.{Accepted}
 use Rattle.merging.proofs.Traces.{merge-went}
-use Rattle.merging.proofs.RowLists.{rows-last, insert-last}
 use Rattle.merging.proofs.ClockLaws.{observe-put}
-use Rattle.merging.proofs.DrainInduction.{settled}
+use Rattle.merging.proofs.DrainInduction.{settled-store}
 use Rattle.merging.proofs.Sealings.{row-sealed}
 use Rattle.merging.proofs.StoreRuns.{Run, start, batch, floor, seal}
 
@@ -65,20 +63,11 @@ insert-marked s r e h =
 
 -- so they stay when a batch is drained
 pub settle-marked : (s : Store) (a : Admitted) → Marked s → Marked (commit s (settle s a))
-unfolding settle commit insert insertAll rowsOf
+unfolding settle commit
 settle-marked s a h =
-    let d : Drained = settle s a in
-    let base : Store =
-    record { log = s .log; held = d .waiting; floor = s .floor; clock = s .clock; compacted = s .compacted; marks = s .marks } in
-    settled (λ c w l n. (insertAll base (rowsOf l) .clock ≡ c) × Marked (insertAll base (rowsOf l)))
-    (λ c w l n k rest rd t e p.
-    let rows = rows-last l k in
-    let last = insert-last base (rowsOf l) (k .row) in (
-      rw (rows, last) (ap (λ (x : List (ℕ × ℕ)). observe x (k .row .author) (k .row .seq)) (p .0)),
-      rw (rows, last) (insert-marked (insertAll base (rowsOf l)) (k .row) (rw (p .0) e) (p .1)),
-    ))
-    (λ c w l n k rest rd t e p. p)
-    base a (refl, h) .0 .1
+    settled-store Marked insert-marked
+    (record { log = s .log; held = settle s a .waiting; floor = s .floor; clock = s .clock; compacted = s .compacted; marks = s .marks })
+    a h .1
 
 pub run-marked : {o : List Row} {t : List Accepted} {s : Store} → Run o t s → Marked s
 run-marked (start el eh ec em) = rw (em, ec) refl

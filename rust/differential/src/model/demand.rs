@@ -135,14 +135,14 @@ pub fn listing<'a>(clock: &Entries, rows: &[&'a Row]) -> Vec<&'a Row> {
 pub fn check(first: &Run, second: &Run) -> Result<(), &'static str> {
     let one = alone(first)?;
     let other = alone(second)?;
-    let (less, more) = (&first.offers.rows, &second.offers.rows);
-    if more.is_subset(less) {
+    let [offered, others] = [first, second].map(|run| &run.offers.rows);
+    if others.is_subset(offered) {
         sublist(&other.rows, &one.rows)?;
     }
-    if less.is_subset(more) {
+    if offered.is_subset(others) {
         sublist(&one.rows, &other.rows)?;
     }
-    if less == more {
+    if offered == others {
         equal(&one, &other)?;
     }
     Ok(())
