@@ -29,6 +29,8 @@ HAS_WORDS(cuwelfra_lookup_told, 6);
 HAS_WORDS(cuwelfra_op_told, 5);
 HAS_WORDS(cuwelfra_delta_told, 13);
 HAS_WORDS(cuwelfra_prepared_told, 43);
+HAS_WORDS(cuwelfra_message_told, 5);
+HAS_WORDS(cuwelfra_frame_told, 10);
 
 static int checks = 0;
 static int failures = 0;
@@ -97,7 +99,7 @@ static void check_word(int line, uint64_t number, const char *wanted)
 static void versions(void)
 {
     IS(cuwelfra_abi(), CUWELFRA_ABI);
-    IS(cuwelfra_abi_3(), CUWELFRA_ABI);
+    IS(cuwelfra_abi_4(), CUWELFRA_ABI);
     IS(CUWELFRA_ABI_FITS(), 1);
 }
 
@@ -108,6 +110,7 @@ static void words(void)
     SAYS(CUWELFRA_REFUSED_HELD_BYTES, "held bytes");
     SAYS(CUWELFRA_REFUSED_TRAILING, "trailing");
     SAYS(CUWELFRA_REFUSED_OTHER_CAUSES, "other causes");
+    SAYS(CUWELFRA_REFUSED_INVALID_TAG, "invalid tag");
     SAYS(UINT64_MAX, "unknown");
 }
 
@@ -963,6 +966,107 @@ static void peers(void)
     REFUSED(cuwelfra_peer_record_ping(peer, sizeof peer, 2000), UNSOUND_STORE, 0, 0);
 }
 
+/* ---- Messages */
+
+/* Room for the rows of a Delta; the sizes of the layout hold any message. */
+static uint8_t body[CUWELFRA_DELTA_BODY_BYTES];
+static uint8_t rows[CUWELFRA_MAX_BATCH * CUWELFRA_SLOT_BYTES];
+
+static void handshakes(void)
+{
+    static const uint8_t hello[] = {CUWELFRA_TAG_HELLO, 3, 1, 1, 2, 1, 3, 1}; /* {1: 1, 2: 1, 3: 1} */
+    static const uint8_t zero[] = {CUWELFRA_TAG_ACK, 1, 1, 0};                /* {1: 0} */
+    static const uint8_t falling[] = {CUWELFRA_TAG_HELLO, 2, 5, 1, 3, 2};     /* {3: 2, 5: 1} */
+    static const uint8_t snapshot[] = {5};
+    static const uint8_t sig[] = {0xC0, 0xC1};
+    uint8_t frame[16];
+    uint8_t clock[CUWELFRA_CLOCK_BYTES];
+    uint8_t copy[CUWELFRA_CLOCK_BYTES];
+    cuwelfra_written written;
+    cuwelfra_message_told read;
+    cuwelfra_frame_told framed;
+
+    /* The desk says what it knows. The server signs the body between the two steps. */
+    make_desk();
+    ACCEPTED(cuwelfra_log_clock(AREAS(desk), copy, sizeof copy));
+    written = cuwelfra_encode_hello(body, sizeof body, copy, sizeof copy);
+    ACCEPTED(written.told);
+    IS(written.next, sizeof hello);
+    STARTS(body, hello);
+    written = cuwelfra_encode_envelope(frame, sizeof frame, 9, body, (size_t)written.next, sig, sizeof sig);
+    ACCEPTED(written.told);
+    IS(written.next, 13);
+
+    framed = cuwelfra_decode_frame(frame, (size_t)written.next, clock, sizeof clock, rows, sizeof rows);
+    ACCEPTED(framed.told);
+    IS(framed.sender, 9);
+    IS(framed.body_at, 2);
+    IS(framed.body_len, 8);
+    IS(framed.sig_at, 11);
+    IS(framed.sig_len, 2);
+    IS(framed.tag, CUWELFRA_TAG_HELLO);
+    IS(framed.number, 0);
+    STARTS(clock, copy);
+
+    /* A cut frame, and a snapshot's message: refused, and the area stays. */
+    framed = cuwelfra_decode_frame(frame, 12, clock, sizeof clock, rows, sizeof rows);
+    REFUSED(framed.told, TOO_LARGE, 0, 0);
+    IS(framed.sender, 0);
+    read = cuwelfra_decode_message(snapshot, sizeof snapshot, clock, sizeof clock, rows, sizeof rows);
+    REFUSED(read.told, INVALID_TAG, 5, 0);
+    STARTS(clock, copy);
+
+    /* An entry of 0 comes back, and authors need not rise. */
+    read = cuwelfra_decode_message(zero, sizeof zero, clock, sizeof clock, rows, sizeof rows);
+    ACCEPTED(read.told);
+    IS(read.tag, CUWELFRA_TAG_ACK);
+    IS(clock[7], 1);
+    IS(cuwelfra_encode_ack(body, sizeof body, clock, sizeof clock).next, sizeof zero);
+    STARTS(body, zero);
+    ACCEPTED(cuwelfra_decode_message(falling, sizeof falling, clock, sizeof clock, rows, sizeof rows).told);
+    IS(clock[15], 3);
+    IS(clock[31], 5);
+
+    /* A ping and its pong: 300 is AC 02. */
+    IS(cuwelfra_encode_ping(body, sizeof body, 300).next, 3);
+    read = cuwelfra_decode_message(body, 3, clock, sizeof clock, rows, sizeof rows);
+    ACCEPTED(read.told);
+    IS(read.tag, CUWELFRA_TAG_PING);
+    IS(read.number, 300);
+    IS(cuwelfra_encode_pong(body, sizeof body, read.number).next, 3);
+    IS(body[0], CUWELFRA_TAG_PONG);
+    REFUSED(cuwelfra_encode_pong(body, 2, 300).told, SHORT_AREA, 0, 0);
+}
+
+/* The rows that a peer lacks go out as one message, which comes back as the same slots. */
+static void delta_messages(void)
+{
+    uint8_t clock[CUWELFRA_CLOCK_BYTES];
+    cuwelfra_written written;
+    cuwelfra_message_told read;
+
+    make_desk();
+    memset(rows, 0x5A, sizeof rows);
+    written = cuwelfra_encode_delta(body, sizeof body, desk.log, sizeof desk.log, 3);
+    ACCEPTED(written.told);
+    IS(body[0], CUWELFRA_TAG_DELTA);
+    IS(body[1], 3);
+    read = cuwelfra_decode_message(body, (size_t)written.next, clock, sizeof clock, rows, sizeof rows);
+    ACCEPTED(read.told);
+    IS(read.tag, CUWELFRA_TAG_DELTA);
+    IS(read.number, 3);
+    check_bytes(__LINE__, "rows", rows, 3 * CUWELFRA_SLOT_BYTES, desk.log, 1);
+    ALL_FROM(rows, 3 * CUWELFRA_SLOT_BYTES, 0x5A);
+
+    /* Too few slots to write into: refused, and nothing is written. */
+    memset(rows, 0x5A, sizeof rows);
+    read = cuwelfra_decode_message(body, (size_t)written.next, clock, sizeof clock, rows, 3 * CUWELFRA_SLOT_BYTES - 1);
+    REFUSED(read.told, SHORT_AREA, 0, 0);
+    ALL_FROM(rows, 0, 0x5A);
+    /* Neither is a slot that is no row's written out. */
+    REFUSED(cuwelfra_encode_delta(body, sizeof body, rows, sizeof rows, 1).told, UNSOUND_STORE, 0, 0);
+}
+
 int main(void)
 {
     versions();
@@ -986,6 +1090,8 @@ int main(void)
     rows_of_its_own();
     deltas();
     peers();
+    handshakes();
+    delta_messages();
     printf("%d checks, %d failed\n", checks, failures);
     return failures == 0 ? 0 : 1;
 }

@@ -23,20 +23,20 @@ extern "C" {
 
 /* The number of the interface that this header declares. It is raised at each change of a call's signature, a struct,
    an area's layout or a size. */
-#define CUWELFRA_ABI 3
-/* 1 where the linked library has this number. A library that has another lacks the name cuwelfra_abi_3, so that a
+#define CUWELFRA_ABI 4
+/* 1 where the linked library has this number. A library that has another lacks the name cuwelfra_abi_4, so that a
    program that says this does not link with it. */
-#define CUWELFRA_ABI_FITS() (cuwelfra_abi_3() == CUWELFRA_ABI && cuwelfra_abi() == CUWELFRA_ABI)
+#define CUWELFRA_ABI_FITS() (cuwelfra_abi_4() == CUWELFRA_ABI && cuwelfra_abi() == CUWELFRA_ABI)
 
 /* The linked library's number. Refuses nothing. */
 uint64_t cuwelfra_abi(void);
 /* The same, by a name that has the number in it. */
-uint64_t cuwelfra_abi_3(void);
+uint64_t cuwelfra_abi_4(void);
 
 /* ---- Numbers by name */
 
 /* The refusals: number, name, word. 5 to 13 carry the row's author and sequence, 14 and 15 the limit, 16 the limit and
-   the author, 20 the remote wall time and the physical time; the others carry nothing. */
+   the author, 20 the remote wall time and the physical time, 29 the tag; the others carry nothing. */
 #define CUWELFRA_REFUSALS(X)                                                                                          \
     /* a store, slot, clock or peer that breaks a rule of docs/LAYOUT.md */                                           \
     X(1, UNSOUND_STORE, "unsound store")                                                                              \
@@ -45,7 +45,7 @@ uint64_t cuwelfra_abi_3(void);
     /* a batch, or bytes to seal, cut short or with bytes left over, a number above its bits, authors that do not     \
        strictly rise, closing bytes that are none */                                                                  \
     X(3, UNREADABLE, "unreadable")                                                                                    \
-    /* a size in a batch or in what is sealed, or a setting, above its greatest */                                    \
+    /* a size in a batch, in a message or in what is sealed, or a setting, above its greatest */                      \
     X(4, OVER_CAPACITY, "over capacity")                                                                              \
     /* 5 to 13 are told of a row of a batch, 5 and 6 of one that is sealed too */                                     \
     X(5, ZERO_SEQUENCE, "zero sequence")                                                                              \
@@ -67,7 +67,7 @@ uint64_t cuwelfra_abi_3(void);
     X(19, COUNTER_OVERFLOW, "counter overflow")                                                                       \
     X(20, REMOTE_AHEAD, "remote ahead")                                                                               \
     X(21, UNASKED_PONG, "unasked pong")                                                                               \
-    /* 22 to 25 are told of varints, parts and envelopes */                                                           \
+    /* 22 to 25 are told of varints, parts, envelopes and messages */                                                 \
     X(22, TRUNCATED, "truncated")                                                                                     \
     X(23, OVERFLOW, "overflow")                                                                                       \
     X(24, TOO_LARGE, "too large")                                                                                     \
@@ -76,7 +76,9 @@ uint64_t cuwelfra_abi_3(void);
     X(26, OPERATION_TOO_LARGE, "operation too large")                                                                 \
     X(27, SEQUENCE_EXHAUSTED, "sequence exhausted")                                                                   \
     /* told in sealing: dependencies that are not the log's clock */                                                  \
-    X(28, OTHER_CAUSES, "other causes")
+    X(28, OTHER_CAUSES, "other causes")                                                                               \
+    /* told in reading a message: its tag is none of the five */                                                      \
+    X(29, INVALID_TAG, "invalid tag")
 
 #define CUWELFRA_NAMED(number, name, word) CUWELFRA_REFUSED_##name = number,
 /* CUWELFRA_REFUSED_UNSOUND_STORE is 1, and so on. */
@@ -123,6 +125,15 @@ enum { CUWELFRA_CLOCK_BEFORE = 0, CUWELFRA_CLOCK_AFTER = 1, CUWELFRA_CLOCK_EQUAL
 
 /* Where a row stands. */
 enum { CUWELFRA_PLACE_ABSENT = 0, CUWELFRA_PLACE_LOGGED = 1, CUWELFRA_PLACE_HELD = 2 };
+
+/* The tags of a message. */
+enum {
+    CUWELFRA_TAG_HELLO = 0,
+    CUWELFRA_TAG_DELTA = 1,
+    CUWELFRA_TAG_ACK = 2,
+    CUWELFRA_TAG_PING = 3,
+    CUWELFRA_TAG_PONG = 4
+};
 
 /* The state of a peer. */
 enum {
@@ -227,6 +238,26 @@ typedef struct {
     uint64_t next;
     uint64_t verdict;
 } cuwelfra_op_told;
+
+/* A message that was read: its tag (a CUWELFRA_TAG_), and the rows of a Delta or the nonce of a Ping or Pong, else 0;
+   both 0 when refused. */
+typedef struct {
+    cuwelfra_told told;
+    uint64_t tag;
+    uint64_t number;
+} cuwelfra_message_told;
+
+/* An envelope that was read with the message in its body; all 0 when refused. */
+typedef struct {
+    cuwelfra_told told;
+    uint64_t sender;
+    uint64_t body_at;
+    uint64_t body_len;
+    uint64_t sig_at;
+    uint64_t sig_len;
+    uint64_t tag;
+    uint64_t number;
+} cuwelfra_frame_told;
 
 /* What a batch call answers: rows logged and applied, stale or rejected, duplicates, rows held after it, held rows that
    expired, ready rows that were not their author's next; and how many stamps of the batch the hybrid clock refused, with
@@ -486,6 +517,41 @@ cuwelfra_prepared_told cuwelfra_prepare(uint64_t author, uint64_t last_wall, uin
 cuwelfra_told cuwelfra_seal(uint8_t *log, size_t log_len, const uint8_t *held, size_t held_len, uint8_t *head,
                             size_t head_len, const uint8_t *bytes, size_t bytes_len, const uint8_t *signature,
                             size_t signature_len);
+
+/* ---- Messages
+   A body is a tag byte (a CUWELFRA_TAG_), then a clock for Hello and Ack (a varint count and as many pairs of author and
+   number), a varint count and as many rows as cuwelfra_signed_op writes them for Delta, a varint for Ping and Pong, and
+   nothing behind. A frame is an envelope with such a body: write the body, sign it, cuwelfra_encode_envelope. */
+
+/* The most bytes of a body: a Hello or Ack of 32 authors, a Delta of 64 rows. */
+#define CUWELFRA_CLOCK_BODY_BYTES 642
+#define CUWELFRA_DELTA_BODY_BYTES 44098
+
+/* Writes the body of a Hello with this clock area at the start of out. 2 and 1 for clock, then 2 where it finds no
+   room. */
+cuwelfra_written cuwelfra_encode_hello(uint8_t *out, size_t out_len, const uint8_t *clock, size_t clock_len);
+/* The same for an Ack. */
+cuwelfra_written cuwelfra_encode_ack(uint8_t *out, size_t out_len, const uint8_t *clock, size_t clock_len);
+/* Writes the body of a Ping at the start of out. 2 where it finds no room. */
+cuwelfra_written cuwelfra_encode_ping(uint8_t *out, size_t out_len, uint64_t nonce);
+/* The same for a Pong. */
+cuwelfra_written cuwelfra_encode_pong(uint8_t *out, size_t out_len, uint64_t nonce);
+/* Writes the body of a Delta with the rows of count slots, in their order, at the start of out. 2 for rows below
+   704 * count; 1 for a slot that is no logged row's; 4 for a count above 64; then 2 where it finds no room. */
+cuwelfra_written cuwelfra_encode_delta(uint8_t *out, size_t out_len, const uint8_t *rows, size_t rows_len, size_t count);
+/* Reads the message that fills all of body. Writes the clock of a Hello or Ack into the clock area, the rows of a Delta
+   into as many slots of rows, logged rows' ones, and nothing for a Ping or Pong; later bytes stay.
+   Authors need not rise: of one that comes twice the greatest number counts. An entry of 0 is kept.
+   2 for clock; 22 for an empty body; 29; then by the first fault, at each number 22, 23, for a count or length also 24
+   where it is above 4,096 pairs or rows, 1,048,576 payload bytes, 1,024 signature bytes or the bytes of the body behind
+   it, then 4 where it is above 32 pairs of a clock, 64 rows, 16 dependencies, 256 payload bytes or 64 signature bytes; 25
+   where bytes remain; 2 for rows below 704 bytes for each row. */
+cuwelfra_message_told cuwelfra_decode_message(const uint8_t *body, size_t body_len, uint8_t *clock, size_t clock_len,
+                                              uint8_t *rows, size_t rows_len);
+/* Reads the envelope that fills all of frame, as cuwelfra_decode_envelope does, and the message in its body, as
+   cuwelfra_decode_message does. 2 for clock; 22 to 25 of the envelope; then all of the message. */
+cuwelfra_frame_told cuwelfra_decode_frame(const uint8_t *frame, size_t frame_len, uint8_t *clock, size_t clock_len,
+                                          uint8_t *rows, size_t rows_len);
 
 /* ---- Peers
    A peer area, in words: id, state, remote clock (65), last_seen, last_ping, outstanding count and 8 nonces, answered

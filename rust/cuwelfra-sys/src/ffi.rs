@@ -20,7 +20,7 @@ use crate::*;
 extern "C" {
     // The interface.
     pub fn cuwelfra_abi() -> u64;
-    pub fn cuwelfra_abi_3() -> u64;
+    pub fn cuwelfra_abi_4() -> u64;
     // Bytes.
     pub fn cuwelfra_varint_len(v: u64) -> usize;
     pub fn cuwelfra_put_varint(out: *mut u8, out_len: usize, at: usize, v: u64) -> Written;
@@ -360,6 +360,45 @@ extern "C" {
         signature: *const u8,
         signature_len: usize,
     ) -> Told;
+
+    // Messages.
+    pub fn cuwelfra_encode_hello(
+        out: *mut u8,
+        out_len: usize,
+        clock: *const u8,
+        clock_len: usize,
+    ) -> Written;
+    pub fn cuwelfra_encode_ack(
+        out: *mut u8,
+        out_len: usize,
+        clock: *const u8,
+        clock_len: usize,
+    ) -> Written;
+    pub fn cuwelfra_encode_ping(out: *mut u8, out_len: usize, nonce: u64) -> Written;
+    pub fn cuwelfra_encode_pong(out: *mut u8, out_len: usize, nonce: u64) -> Written;
+    pub fn cuwelfra_encode_delta(
+        out: *mut u8,
+        out_len: usize,
+        rows: *const u8,
+        rows_len: usize,
+        count: usize,
+    ) -> Written;
+    pub fn cuwelfra_decode_message(
+        body: *const u8,
+        body_len: usize,
+        clock: *mut u8,
+        clock_len: usize,
+        rows: *mut u8,
+        rows_len: usize,
+    ) -> MessageTold;
+    pub fn cuwelfra_decode_frame(
+        frame: *const u8,
+        frame_len: usize,
+        clock: *mut u8,
+        clock_len: usize,
+        rows: *mut u8,
+        rows_len: usize,
+    ) -> FrameTold;
 
     // Peers.
     pub fn cuwelfra_peer_new(peer: *mut u8, peer_len: usize, id: u64) -> Told;
