@@ -9,7 +9,8 @@
 //! - [`Delta`] is what a peer lacks, [`Peer`] what is known about one.
 //! - [`HybridClock`] stamps an author's rows, and takes in the stamps of each batch; [`VectorClock`] says how far each
 //!   author's rows are known.
-//! - [`Reader`], [`Writer`] and [`Envelope`] serve the frames between peers.
+//! - [`Message`] is what peers say to each other, [`Frame`] a message with its sender and signature; [`Reader`],
+//!   [`Writer`] and [`Envelope`] serve other frames.
 //!
 //! Every call answers with a `Result`. A [`Refusal`] has a number and values; it changes nothing, and nothing panics. The
 //! numbers behind a call's description, as in "2, 1", are those that it may be refused with. "Document 01" in these pages
@@ -121,6 +122,7 @@ mod desk;
 mod fates;
 mod file;
 mod merge;
+mod message;
 mod outcome;
 mod peer;
 mod refusal;
@@ -139,6 +141,7 @@ pub use delta::Delta;
 pub use desk::Prepared;
 pub use file::{write_new, FileError, Update};
 pub use merge::{Fate, Logged, Report, LINE_BYTES};
+pub use message::{Frame, Message, MAX_CLOCK_BODY, MAX_DELTA_BODY};
 pub use outcome::{ApplyError, Outcome};
 pub use peer::{Peer, PeerState, MAX_PINGS, PEER_BYTES};
 pub use refusal::{Explained, Refusal};
@@ -237,6 +240,7 @@ mod tests {
         natural::<(Refusal, Limits, Request, HybridClock, VectorClock)>();
         natural::<(Peer, Slot, Row, Prepared)>();
         natural::<Reader<'static>>();
+        natural::<(Message, Frame<'static>)>();
     }
 
     /// Compiles only where they may be keys.
@@ -246,5 +250,6 @@ mod tests {
         key::<(Refusal, ApplyError, Fate, PeerState)>();
         key::<(ActorId, Timestamp, VectorClock, HybridClock)>();
         key::<(Row, Limits, Request)>();
+        key::<(Message, Frame)>();
     }
 }

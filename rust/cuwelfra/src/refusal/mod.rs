@@ -151,31 +151,32 @@ mod tests {
                 "operation too large",
                 "sequence exhausted",
                 "other causes",
+                "invalid tag",
             ]
         );
         let values = |number| Refusal::explain(number).map(|known| known.values.len());
-        for number in 1..=28 {
+        for number in 1..=29 {
             let carried = match number {
                 5..=13 | 16 | 20 => 2,
-                14 | 15 => 1,
+                14 | 15 | 29 => 1,
                 _ => 0,
             };
             assert_eq!(values(number), Some(carried), "{number}");
         }
-        assert_eq!(values(29), None);
+        assert_eq!(values(30), None);
     }
 
     #[test]
     fn what_the_documents_do_not_have_is_handed_on() {
         let told = Told {
-            number: 29,
+            number: 30,
             first: 1,
             second: 2,
         };
         let refusal = Refusal::UnknownAnswer(told);
         assert_eq!(Refusal::check(told), Err(refusal));
         assert_eq!(refusal.told(), told);
-        let text = "refusal 29, unknown answer: first value 1, second value 2";
+        let text = "refusal 30, unknown answer: first value 1, second value 2";
         assert_eq!(refusal.to_string(), text);
         assert_eq!(Refusal::check(Told::default()), Ok(()));
     }
@@ -207,6 +208,10 @@ mod tests {
                     actor: ActorId(9),
                 },
                 "refusal 16, author overflow: limit 3, author 9",
+            ),
+            (
+                Refusal::InvalidTag { tag: 5 },
+                "refusal 29, invalid tag: tag 5",
             ),
             (
                 Refusal::RemoteAhead {

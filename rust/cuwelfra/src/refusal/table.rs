@@ -176,10 +176,10 @@ refusals! {
                  merged. Seal the bytes that preparing gave, unchanged.",
     }
     4 => OverCapacity, "over capacity" {
-        meaning: "A size or a setting is above its capacity. Sizes: 64 rows in a batch, 16 \
-                  dependencies, 256 bytes of payload, 64 of signature, 1,024 rows in a log. Settings: `max_pending` \
-                  64, `max_deps` 16, `max_payload` 256.",
-        advice: "Split the batch, leave the row out, lower the setting, or sign with at most 64 bytes.",
+        meaning: "A size or a setting is above its capacity. Sizes: 64 rows in a batch or a message, 32 entries in a \
+                  message's clock, 16 dependencies, 256 bytes of payload, 64 of signature, 1,024 rows in a log. \
+                  Settings: `max_pending` 64, `max_deps` 16, `max_payload` 256.",
+        advice: "Split the batch or the message, leave the row out, lower the setting, or sign with at most 64 bytes.",
     }
     5 => ZeroSequence { actor: ActorId = "author", seq: u64 = "sequence" }, "zero sequence" {
         meaning: "A row of the batch, or the row to seal, has sequence 0. An author's rows are numbered from 1.",
@@ -274,7 +274,8 @@ refusals! {
     }
     24 => TooLarge, "too large" {
         meaning: "A length or a count is above its limit, or above the bytes that are left. In an envelope the body \
-                  has at most 16,777,216 bytes and the signature 1,024.",
+                  has at most 16,777,216 bytes and the signature 1,024; in a message a clock has at most 4,096 entries, \
+                  a Delta 4,096 rows, and a row 4,096 dependencies, 1,048,576 bytes of payload and 1,024 of signature.",
         advice: "Look whether the frame came whole; where it did, drop it.",
     }
     25 => TrailingBytes, "trailing" {
@@ -298,5 +299,11 @@ refusals! {
         advice: "Look the row up by author and number first: where it is logged with your payload, it is done. Else \
                  prepare it again, sign the new bytes and seal these. What was signed before must not go out: its \
                  number comes again with other dependencies.",
+    }
+    29 => InvalidTag { tag: u64 = "tag" }, "invalid tag" {
+        meaning: "A message's first byte is the tag of none that is read here: 0 Hello, 1 Delta, 2 Ack, 3 Ping, 4 Pong. \
+                  5 and 6 are a snapshot's.",
+        advice: "A snapshot's message is the server's to read: decode the envelope alone. Drop any other: its sender has \
+                 another layout.",
     }
 }
