@@ -14,6 +14,7 @@ mod model;
 #[cfg(oracle_present)]
 mod original;
 mod port;
+mod readings;
 #[cfg(oracle_present)]
 mod record;
 mod rng;

@@ -8,6 +8,7 @@ pub mod joined;
 pub mod judges;
 pub mod listed;
 pub mod merger;
+pub mod messages;
 mod pending;
 pub mod replica;
 
@@ -17,14 +18,19 @@ use oracle::open::{Reader, Writer};
 
 use crate::support::refused;
 
-/// Document 01's number of a codec error.
+/// The documents' number and value of a codec error.
 pub fn codec_told(error: &CodecError) -> Told {
     refused(match error {
         CodecError::Truncated => 22,
         CodecError::VarintOverflow => 23,
         CodecError::TooLarge => 24,
         CodecError::TrailingBytes => 25,
-        CodecError::InvalidTag(tag) => panic!("no call reads a tag, and tag {tag} was refused"),
+        CodecError::InvalidTag(tag) => {
+            return Told {
+                first: u64::from(*tag),
+                ..refused(29)
+            }
+        }
     })
 }
 

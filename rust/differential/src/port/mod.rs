@@ -4,6 +4,7 @@ pub mod area;
 pub mod batches;
 pub mod desk;
 pub mod lending;
+pub mod messages;
 pub mod own;
 pub mod rows;
 pub mod store;

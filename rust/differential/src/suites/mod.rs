@@ -52,6 +52,7 @@ cfg_if! {
             pub mod batch_bytes;
             pub mod odd_stores;
             pub mod desk_faults;
+            pub mod message_areas;
             pub mod convergence;
         }
     }
@@ -66,6 +67,8 @@ cfg_if! {
             pub mod writers;
             pub mod readers;
             pub mod envelope;
+            pub mod messages;
+            pub mod frames;
             pub mod timestamp;
             pub mod hybrid;
             pub mod vector;

@@ -4,6 +4,7 @@ pub mod calls;
 pub mod clocks;
 pub mod damage;
 pub mod lists;
+pub mod messages;
 pub mod own;
 pub mod strange;
 

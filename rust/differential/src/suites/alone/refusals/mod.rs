@@ -3,6 +3,7 @@
 
 mod batches;
 mod lent;
+mod messages;
 mod numbers;
 mod own;
 
@@ -13,7 +14,7 @@ use crate::rng::Rng;
 use crate::support::{agree, note, Check, Outcome};
 
 /// Document 01's numbers, and document 02's from 26 on.
-const LAST: usize = 28;
+const LAST: usize = 29;
 
 /// What is wrong, the answer that the documents give it (number and two values, 0 where it carries none), and the call.
 type Provocation = (&'static str, [u64; 3], fn() -> Told);
@@ -24,6 +25,7 @@ pub fn run(rng: &mut Rng) -> Outcome {
         batches::PROVOCATIONS,
         numbers::PROVOCATIONS,
         own::PROVOCATIONS,
+        messages::PROVOCATIONS,
     ]
     .concat();
     let mut provoked = [0; LAST + 1];
@@ -65,11 +67,11 @@ fn comes_through(told: Told) -> Check {
     Ok(())
 }
 
-/// How many values each of the refusals 1 to 28 carries.
+/// How many values each of the refusals 1 to 29 carries.
 fn values(number: u64) -> usize {
     match number {
         5..=13 | 16 | 20 => 2,
-        14 | 15 => 1,
+        14 | 15 | 29 => 1,
         _ => 0,
     }
 }
@@ -92,7 +94,7 @@ fn mapped(rng: &mut Rng) -> Outcome {
         comes_through(told)?;
         cases += 1;
     }
-    for number in [29, Refusal::MISFIT - 1] {
+    for number in [30, Refusal::MISFIT - 1] {
         let told = Told {
             number,
             ..Told::default()

@@ -1,0 +1,177 @@
+//! Message bodies beside the original's `BinaryCodec`: every one of up to three bytes, bodies of our own writing, damaged
+//! ones, sizes around every limit; and messages that are written, and read back by both.
+
+use cuwelfra_sys as sys;
+
+use crate::model::messages::{bytes, message_call, numbers, read_message, Message, BODY};
+use crate::original::messages::{encoded, Alone};
+use crate::port::area::{self, BYTES};
+use crate::port::messages::{wrapped_message, Lent};
+use crate::port::rows::SLOT;
+use crate::readings::Readings;
+use crate::rng::Rng;
+use crate::support::{agree, note, same_write, Check, Outcome};
+use crate::world::messages::{body, delta, largest, message, sizes};
+
+const STRUCTURED: usize = 2_000_000;
+const WRITTEN: usize = 60_000;
+/// Messages that are cut at every length and padded, and small ones of which each byte is replaced by every other.
+const CUT: usize = 2_000;
+const REPLACED: usize = 150;
+
+pub fn run(rng: &mut Rng) -> Outcome {
+    let mut beside = Beside::new();
+    beside.short()?;
+    for _ in 0..STRUCTURED {
+        let wrapped = rng.once_in(8);
+        beside.read(&body(rng), wrapped)?;
+    }
+    for _ in 0..CUT {
+        let message = message(rng);
+        beside.cut_and_padded(rng, &bytes(&message))?;
+    }
+    let small = |rng: &mut Rng| loop {
+        let body = bytes(&message(rng));
+        if body.len() <= 80 {
+            return body;
+        }
+    };
+    for _ in 0..REPLACED {
+        let body = small(rng);
+        beside.replaced(body)?;
+    }
+    sizes(rng, |body| beside.read(body, false))?;
+    for _ in 0..WRITTEN {
+        let message = message(rng);
+        beside.written(&message)?;
+    }
+    for rows in [63, 64] {
+        let message = delta(rng, rows);
+        beside.written(&message)?;
+    }
+    for message in largest() {
+        beside.written(&message)?;
+        beside.cut_at(&bytes(&message), 101)?;
+    }
+    beside.finish()
+}
+
+struct Beside {
+    lent: Lent,
+    readings: Readings,
+    alone: Alone,
+    writes: u64,
+}
+
+impl Beside {
+    fn new() -> Self {
+        Self {
+            lent: Lent::new(),
+            readings: Readings::default(),
+            alone: Alone::default(),
+            writes: 0,
+        }
+    }
+
+    /// The model, the original and the port on one body; the wrapper too where it is wanted.
+    fn read(&mut self, body: &[u8], wrapped: bool) -> Check {
+        let (read, _) = read_message(body);
+        self.alone.judge(body, &read)?;
+        let (tag, number) = read.as_ref().map_or((0, 0), numbers);
+        let slots = match body.first() {
+            Some(1) => (number as usize).max(1) + 1,
+            _ => 1,
+        };
+        let lens = (BYTES + 8, slots * SLOT);
+        let answer = message_call(body, lens.0, lens.1);
+        let inputs = || format!("decode_message of {body:02x?}");
+        let call = |clock: &mut [u8], rows: &mut [u8]| sys::decode_message(body, clock, rows);
+        self.lent.same(lens, &answer, call, inputs)?;
+        self.readings.note(&answer, tag, number);
+        if wrapped {
+            let wanted = read.map(|message| wrapped_message(&message));
+            let read = cuwelfra::Message::decode(body).map_err(|refusal| refusal.told());
+            let wanted = wanted.map_err(|fault| fault.told);
+            agree(&read, &wanted, || format!("the wrapper's {}", inputs()))?;
+        }
+        Ok(())
+    }
+
+    /// No byte, every tag, and up to two bytes behind every tag.
+    fn short(&mut self) -> Check {
+        self.read(&[], true)?;
+        for tag in 0..=255 {
+            self.read(&[tag], true)?;
+            for first in 0..=255 {
+                self.read(&[tag, first], true)?;
+                for second in 0..=255 {
+                    self.read(&[tag, first, second], false)?;
+                }
+            }
+        }
+        Ok(())
+    }
+
+    fn cut_and_padded(&mut self, rng: &mut Rng, body: &[u8]) -> Check {
+        self.cut_at(body, 1)?;
+        let mut padded = body.to_vec();
+        for _ in 0..3 {
+            padded.push(rng.byte());
+            self.read(&padded, true)?;
+        }
+        Ok(())
+    }
+
+    /// Cut at every length, or at one in so many.
+    fn cut_at(&mut self, body: &[u8], step: usize) -> Check {
+        for len in (0..body.len()).step_by(step).chain([body.len()]) {
+            self.read(&body[..len], false)?;
+        }
+        Ok(())
+    }
+
+    /// Every byte in turn replaced by every other.
+    fn replaced(&mut self, mut body: Vec<u8>) -> Check {
+        for i in 0..body.len() {
+            for flip in 1..=255 {
+                body[i] ^= flip;
+                self.read(&body, false)?;
+                body[i] ^= flip;
+            }
+        }
+        Ok(())
+    }
+
+    /// A message is written as the original writes it, into enough room and no other, and read back by both.
+    fn written(&mut self, message: &Message) -> Check {
+        let body = encoded(message);
+        let inputs = || format!("{message:02x?}");
+        agree(&bytes(message), &body, || {
+            format!("the model's {}", inputs())
+        })?;
+        let what = format!("the body of {}", inputs());
+        self.writes += same_write(&body, 0, &what, |out, _| match message {
+            Message::Hello(pairs) => sys::encode_hello(out, &area::encode(pairs.clone())),
+            Message::Ack(pairs) => sys::encode_ack(out, &area::encode(pairs.clone())),
+            Message::Ping(nonce) => sys::encode_ping(out, *nonce),
+            Message::Pong(nonce) => sys::encode_pong(out, *nonce),
+            Message::Delta(rows) => {
+                let slots: Vec<u8> = rows.iter().flat_map(|row| row.slot()).collect();
+                sys::encode_delta(out, &slots, rows.len())
+            }
+        })?;
+        let wrapped = wrapped_message(message);
+        agree(&wrapped.encode(), &Ok(body.clone()), || {
+            format!("the wrapper's {}", inputs())
+        })?;
+        let (back, _) = read_message(&body);
+        agree(&back.as_ref(), &Ok(message), inputs)?;
+        self.read(&body, true)
+    }
+
+    fn finish(&self) -> Outcome {
+        note(&format!("messages: {}", self.alone.finish()?));
+        self.readings.finish("messages", &BODY)?;
+        Ok(self.readings.cases() + self.writes)
+    }
+}
