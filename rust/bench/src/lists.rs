@@ -1,4 +1,4 @@
-//! Calls beside the batch call: from_parts, delta and chunks of a full log, rows of the desk's own, and varints.
+//! Calls beside the batch call: from_parts, delta and chunks of a full log, rows of the desk's own, messages, and varints.
 
 use cuwelfra::{Row, VectorClock, CLOCK_BYTES, HEAD_BYTES, HELD_BYTES, MAX_LOGGED, SLOT_BYTES};
 use cuwelfra_sys as sys;
@@ -7,6 +7,7 @@ use oracle::open::{Reader, Writer};
 use oracle::sync::{calculate_delta, chunk_ops};
 
 use crate::case::{same_log, slots, store_of};
+use crate::messages;
 use crate::own;
 use crate::rows::{chained, operations};
 use crate::timing::{rounds, time, Subject};
@@ -31,6 +32,7 @@ pub fn lists() -> Done {
     delta(&rows)?;
     chunks(&rows)?;
     own::own()?;
+    messages::messages()?;
     varints()
 }
 

@@ -10,6 +10,8 @@ mod lists;
 #[cfg(oracle_present)]
 mod merging;
 #[cfg(oracle_present)]
+mod messages;
+#[cfg(oracle_present)]
 mod own;
 #[cfg(oracle_present)]
 mod rows;

@@ -2,7 +2,8 @@
 
 use std::thread;
 
-use cuwelfra_sys::{apply_delta, from_parts, prepare, read_op, seal};
+use cuwelfra_sys::{apply_delta, decode_frame, encode_ack, encode_delta, encode_envelope};
+use cuwelfra_sys::{from_parts, prepare, read_op, seal};
 use cuwelfra_sys::{AreasMut, HybridParts, Preparation, Settings};
 
 const STACK_BYTES: usize = 32 * 1024;
@@ -125,4 +126,49 @@ fn a_row_of_its_own() {
     });
     assert_eq!(sealed.number, 0);
     assert_eq!(store.head[..8], 1u64.to_be_bytes());
+}
+
+/// A Delta of 64 rows of the largest sizes, and an Ack of 32 authors, written and read in a frame.
+#[test]
+fn messages_of_full_size() {
+    let mut slot = [0xff; SLOT_BYTES];
+    slot[8..12].fill(0);
+    slot[40..128].fill(0);
+    // 16 dependencies, 256 bytes of payload, 64 of signature.
+    slot[47] = 16;
+    slot[54] = 1;
+    slot[63] = 64;
+    for i in 0..16 {
+        slot[135 + 16 * i] = i as u8;
+    }
+    let slots = slot.repeat(64);
+    let mut body = vec![0; 44_098];
+    let written = on_a_small_stack(|| encode_delta(&mut body, &slots, 64));
+    assert_eq!((written.told.number, written.next), (0, 44_098));
+    let frame = framed(&body);
+    let (mut clock, mut rows) = ([0; 520], vec![0; slots.len()]);
+    let read = on_a_small_stack(|| decode_frame(&frame, &mut clock, &mut rows));
+    assert_eq!((read.told.number, read.tag, read.number), (0, 1, 64));
+    assert_eq!(rows, slots);
+
+    let mut area = [0xff; 520];
+    area[..7].fill(0);
+    area[7] = 32;
+    for i in 0..32 {
+        area[15 + 16 * i] = i as u8;
+    }
+    let mut body = [0; 642];
+    let written = on_a_small_stack(|| encode_ack(&mut body, &area));
+    assert_eq!((written.told.number, written.next), (0, 642));
+    let frame = framed(&body);
+    let read = on_a_small_stack(|| decode_frame(&frame, &mut clock, &mut rows));
+    assert_eq!((read.told.number, read.tag), (0, 2));
+    assert_eq!(clock, area);
+}
+
+fn framed(body: &[u8]) -> Vec<u8> {
+    let mut frame = vec![0; body.len() + 1_100];
+    let written = encode_envelope(&mut frame, 7, body, &[9; 1_024]);
+    frame.truncate(written.next as usize);
+    frame
 }
