@@ -117,7 +117,7 @@ impl Message {
     /// that comes twice the greatest number counts. A body that was spelled otherwise than [`Message::encode`] does it is
     /// read too: a row's signature covers the spelling of [`Row::signing_bytes`].
     pub fn decode(body: &[u8]) -> Result<Self, Refusal> {
-        let mut areas = Areas::for_body(body);
+        let mut areas = Areas::of(body.len());
         let told = sys::decode_message(body, &mut areas.clock, &mut areas.rows);
         Refusal::check(told.told)?;
         areas.message(told.tag, told.number)
@@ -161,7 +161,7 @@ impl<'a> Frame<'a> {
     /// # Ok::<(), Refusal>(())
     /// ```
     pub fn decode(frame: &'a [u8]) -> Result<Self, Refusal> {
-        let mut areas = Areas::for_frame(frame);
+        let mut areas = Areas::of(frame.len());
         let told = sys::decode_frame(frame, &mut areas.clock, &mut areas.rows);
         framed(frame, &told, &areas)
     }
@@ -185,20 +185,9 @@ struct Areas {
 }
 
 impl Areas {
-    /// No row where the tag is not a Delta's.
-    fn for_body(body: &[u8]) -> Self {
-        Self::of(match body.first() {
-            Some(tag) if u64::from(*tag) != DELTA => 0,
-            _ => MAX_BATCH,
-        })
-    }
-
-    /// The shortest row has 8 bytes, so that a short frame has few.
-    fn for_frame(frame: &[u8]) -> Self {
-        Self::of((frame.len() / 8).min(MAX_BATCH))
-    }
-
-    fn of(rows: usize) -> Self {
+    /// Enough for a body or frame of so many bytes: the shortest row has 8.
+    fn of(len: usize) -> Self {
+        let rows = (len / 8).min(MAX_BATCH);
         Self {
             clock: [0; CLOCK_BYTES],
             rows: vec![0; rows * SLOT_BYTES],
