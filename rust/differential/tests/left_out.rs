@@ -14,18 +14,18 @@ use oracle::open::PORTED;
 const CRATES: [(&str, &[&str]); 10] = [
     ("src/stubs/mod.rs", &["stubs"]),
     ("src/error.rs", &["error"]),
-    ("src/codec.rs", &["codec", "row"]),
+    ("src/codec.rs", &["codec", "row", "message"]),
     ("src/clock.rs", &["clock"]),
     ("src/log.rs", &["log", "row"]),
     ("src/gc.rs", &["gc"]),
-    ("src/sync.rs", &["sync", "codec"]),
+    ("src/sync.rs", &["sync", "codec", "message"]),
     ("src/peer.rs", &["peer"]),
     ("src/merge.rs", &["merge", "batch", "log"]),
     ("src/engine.rs", &["engine", "merge"]),
 ];
 
 /// Counterparts of another name: a refusal for an error, a call over an area or a position for a type.
-const RENAMED: [(&str, &str); 17] = [
+const RENAMED: [(&str, &str); 24] = [
     ("ClockError::RemoteTooFarAhead", "Refusal::RemoteAhead"),
     ("MergeError::BadTimestamp", "Refusal::AheadOfTime"),
     // The first of six, 5 to 10.
@@ -47,6 +47,13 @@ const RENAMED: [(&str, &str); 17] = [
     ("Envelope", "EnvelopeRead"),
     ("Envelope::encode", "encode_envelope"),
     ("Envelope::decode", "decode_envelope"),
+    ("BinaryCodec", "decode_message"),
+    ("Message", "Kind"),
+    ("Message::Hello", "Kind::Hello"),
+    ("Message::Delta", "Kind::Delta"),
+    ("Message::Ack", "Kind::Ack"),
+    ("Message::Ping", "Kind::Ping"),
+    ("Message::Pong", "Kind::Pong"),
 ];
 /// Methods of the original's `Replica` that are ported, though the page lists their type, and the calls that stand for them.
 const METHODS: [(&str, &[&str]); 3] = [
