@@ -42,13 +42,15 @@ const TOO_LARGE: [&str; 3] = [
 ];
 
 /// What was met in messages that were read, in clocks and in dependencies.
-const MET: [&str; 6] = [
+const MET: [&str; 8] = [
     "authors that fall in a clock",
     "authors that repeat in a clock",
     "zero entries in a clock",
+    "overlong numbers in a clock or a nonce",
     "authors that fall in dependencies",
     "authors that repeat in dependencies",
     "zero entries in dependencies",
+    "overlong numbers in rows",
 ];
 
 #[derive(Default)]
@@ -56,7 +58,7 @@ pub struct Readings {
     accepted: [u64; 5],
     refused: [[u64; NUMBERS]; FIELDS.len()],
     too_large: [[u64; 3]; FIELDS.len()],
-    met: [u64; 6],
+    met: [u64; 8],
     fullest: usize,
     emptiest: u64,
 }
@@ -73,15 +75,14 @@ impl Readings {
     fn refusal(&mut self, fault: &Fault) {
         let field = fault.field as usize;
         self.refused[field][fault.told.number as usize] += 1;
-        let (Some((size, left)), Some((limit, capacity))) = (fault.size, fault.field.limits())
-        else {
+        let (Some(size), Some((limit, capacity))) = (fault.size, fault.field.limits()) else {
             return;
         };
         if fault.told.number == 24 {
             let kinds = [
-                size <= left as u64,
-                size <= limit,
-                capacity < limit && size > capacity,
+                size.value <= size.left as u64,
+                size.value <= limit,
+                capacity < limit && size.value > capacity,
             ];
             for (count, met) in self.too_large[field].iter_mut().zip(kinds) {
                 *count += u64::from(met);
@@ -91,10 +92,11 @@ impl Readings {
 
     fn acceptance(&mut self, met: &Met, tag: u64, number: u64) {
         self.accepted[tag as usize] += 1;
-        let at = if tag == 1 { 3 } else { 0 };
-        for (count, met) in self.met[at..]
-            .iter_mut()
-            .zip([met.fell, met.repeated, met.zero])
+        let at = if tag == 1 { 4 } else { 0 };
+        for (count, met) in
+            self.met[at..]
+                .iter_mut()
+                .zip([met.fell, met.repeated, met.zero, met.overlong])
         {
             *count += u64::from(met);
         }

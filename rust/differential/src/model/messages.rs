@@ -106,17 +106,25 @@ impl Field {
     }
 }
 
-/// A refusal, where it stands, and the count or length there with the bytes left behind it.
+/// A refusal, where it stands, and the count or length there.
 #[derive(Clone, Copy, Debug, PartialEq, Eq)]
 pub struct Fault {
     pub told: Told,
     pub field: Field,
-    pub size: Option<(u64, usize)>,
+    pub size: Option<Size>,
+}
+
+/// A count or a length, and how many bytes are left before it and behind it.
+#[derive(Clone, Copy, Debug, PartialEq, Eq)]
+pub struct Size {
+    pub value: u64,
+    pub before: usize,
+    pub left: usize,
 }
 
 type Read<T> = Result<T, Fault>;
 
-/// What readings met in clocks and dependencies.
+/// What readings met in clocks, dependencies and numbers.
 #[derive(Clone, Copy, Debug, Default, PartialEq, Eq)]
 pub struct Met {
     /// An author that is below the one before it.
@@ -125,6 +133,8 @@ pub struct Met {
     pub repeated: bool,
     /// An entry of 0 in what was read.
     pub zero: bool,
+    /// A number in more bytes than it needs.
+    pub overlong: bool,
 }
 
 /// The message that fills all of the body, and what was met up to its end or its first fault.
@@ -237,6 +247,7 @@ impl<'a> Walk<'a> {
 
     /// A count or a length: 24, then 4.
     fn size(&mut self, field: Field) -> Read<usize> {
+        let before = self.left.len();
         let size = self.number(field)?;
         let (limit, capacity) = field.limits().expect("a field with limits");
         let left = self.left.len();
@@ -248,13 +259,18 @@ impl<'a> Walk<'a> {
         Err(Fault {
             told: refused(number),
             field,
-            size: Some((size, left)),
+            size: Some(Size {
+                value: size,
+                before,
+                left,
+            }),
         })
     }
 
     fn number(&mut self, field: Field) -> Read<u64> {
         match leb128(self.left) {
             Ok((number, len)) => {
+                self.met.overlong |= len > 1 && self.left[len - 1] == 0;
                 self.left = &self.left[len..];
                 Ok(number)
             }

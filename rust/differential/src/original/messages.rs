@@ -3,6 +3,7 @@
 use cuwelfra_sys::Told;
 use oracle::clock::VectorClock;
 use oracle::codec::{BinaryCodec, Codec};
+use oracle::open::Reader;
 use oracle::sync;
 
 use crate::model::messages::{Fault, Message, Pairs};
@@ -53,13 +54,17 @@ pub struct Alone {
 
 impl Alone {
     /// Requires that the original reads the body as the model does: the same refusal, or the same message but for its
-    /// entries of 0. Of 4, and of 29 for a snapshot's tag, the model speaks alone.
+    /// entries of 0. Of 4, and of 29 for a snapshot's tag, the model speaks alone; where it says 4, the original has taken
+    /// the count or length.
     pub fn judge(&mut self, body: &[u8], read: &Result<Message, Fault>) -> Check {
         let theirs = decoded(body);
         let inputs = || format!("the model beside the original on {body:02x?}");
         let refused = usize::from(theirs.is_err());
         match read {
-            Err(fault) if fault.told.number == 4 => self.over_capacity[refused] += 1,
+            Err(fault) if fault.told.number == 4 => {
+                self.over_capacity[refused] += 1;
+                agree(&taken(body, fault), &true, inputs)?;
+            }
             Err(fault) if fault.told.number == 29 && [5, 6].contains(&fault.told.first) => {
                 self.snapshots[refused] += 1;
             }
@@ -103,6 +108,16 @@ impl Alone {
             false => Ok(text),
         }
     }
+}
+
+/// Whether the original takes the count or length at which the model refuses.
+fn taken(body: &[u8], fault: &Fault) -> bool {
+    let (Some(size), Some((limit, _))) = (fault.size, fault.field.limits()) else {
+        return false;
+    };
+    let mut reader = Reader::new(&body[body.len() - size.before..]);
+    let read = reader.count(limit as usize);
+    read.is_ok_and(|read| read as u64 == size.value)
 }
 
 fn without_zeros(message: &Message) -> Message {

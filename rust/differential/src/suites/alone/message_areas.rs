@@ -136,7 +136,10 @@ impl Suite {
     /// Slots that are sound, damaged or held rows', areas that are short or longer, and counts that differ.
     fn slots(&mut self, rng: &mut Rng) -> Check {
         for _ in 0..SLOTS {
-            let count = rng.pick(&[0, 1, 1, 2, 3, 4]);
+            let count = match rng.once_in(60) {
+                true => rng.pick(&[63, 64, 65, 66]),
+                false => rng.pick(&[0, 1, 1, 2, 3, 4]),
+            };
             let mut area: Vec<u8> = (0..count).flat_map(|_| row(rng).slot()).collect();
             if count > 0 && rng.once_in(2) {
                 let at = rng.below(count) * SLOT;
@@ -159,7 +162,7 @@ impl Suite {
                 ]),
                 _ => count,
             };
-            let room = rng.pick(&[0, 2, 20, 100, 700, 3_000]);
+            let room = rng.pick(&[0, 2, 20, 100, 700, 3_000, 45_000]);
             self.delta(&area, asked, room)?;
         }
         for _ in 0..FLIPPED {

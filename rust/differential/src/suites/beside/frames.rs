@@ -225,14 +225,15 @@ fn reaches(frame: &[u8], answer: &Answer<FrameTold>) -> bool {
     let Some(fault) = answer.fault.filter(|fault| BODY.contains(&fault.field)) else {
         return false;
     };
-    let (Some((size, left)), Some((limit, _))) = (fault.size, fault.field.limits()) else {
+    let (Some(size), Some((limit, _))) = (fault.size, fault.field.limits()) else {
         return false;
     };
     let Ok(envelope) = read_envelope(frame) else {
         return false;
     };
     let behind = frame.len() as u64 - envelope.body_at - envelope.body_len;
-    size <= limit && size > left as u64 && size <= left as u64 + behind
+    let left = size.left as u64;
+    size.value <= limit && size.value > left && size.value <= left + behind
 }
 
 fn same_wrapped(frame: &[u8], answer: &Answer<FrameTold>, inputs: impl Fn() -> String) -> Check {
