@@ -24,7 +24,7 @@ pub fn encoded(message: &Message) -> Vec<u8> {
 }
 
 /// What the original reads, `None` for a snapshot's message.
-fn decoded(body: &[u8]) -> Result<Option<Message>, Told> {
+pub fn decoded(body: &[u8]) -> Result<Option<Message>, Told> {
     let clock = |clock: &VectorClock| entries(clock).into_iter().collect();
     let message = BinaryCodec
         .decode(body)

@@ -4,7 +4,7 @@
 use cuwelfra_sys as sys;
 
 use crate::model::messages::{bytes, message_call, numbers, read_message, Message, BODY};
-use crate::original::messages::{encoded, Alone};
+use crate::original::messages::{decoded, encoded, Alone};
 use crate::port::area::{self, BYTES};
 use crate::port::messages::{wrapped_message, Lent};
 use crate::port::rows::SLOT;
@@ -21,7 +21,13 @@ const REPLACED: usize = 150;
 
 pub fn run(rng: &mut Rng) -> Outcome {
     let mut beside = Beside::new();
+    zero_entry(&mut beside)?;
+    small(&mut beside)?;
     beside.short()?;
+    let short = 1 + 256 + (256 * 256) + (256 * 256 * 256);
+    note(&format!(
+        "messages: all {short} bodies of up to three bytes, the first a tag"
+    ));
     for _ in 0..STRUCTURED {
         let wrapped = rng.once_in(8);
         beside.read(&body(rng), wrapped)?;
@@ -54,6 +60,65 @@ pub fn run(rng: &mut Rng) -> Outcome {
         beside.cut_at(&bytes(&message), 101)?;
     }
     beside.finish()
+}
+
+/// Hello {1: 0}: both write it alike; the original reads it back without the entry, the port with it.
+fn zero_entry(beside: &mut Beside) -> Check {
+    let hello = Message::Hello(vec![(1, 0)]);
+    let inputs = || "Hello {1: 0}".to_owned();
+    agree(&encoded(&hello), &vec![0, 1, 1, 0], inputs)?;
+    let theirs = decoded(&[0, 1, 1, 0]);
+    agree(&theirs, &Ok(Some(Message::Hello(vec![]))), inputs)?;
+    agree(&read_message(&[0, 1, 1, 0]).0, &Ok(hello.clone()), inputs)?;
+    beside.written(&hello)
+}
+
+/// The start of a small row: wall time 0, counter 0, stamp author, author and sequence 1.
+const HEAD: [u8; 5] = [0, 0, 1, 1, 1];
+
+/// Small bodies whose answers differ in kind, as docs/DIFFERENCES.md has them, or stand at an edge: the number here, 0 for
+/// none, and the original's, 0 where it reads the body.
+fn small(beside: &mut Beside) -> Check {
+    let pairs = |authors: u8| -> Vec<u8> { (1..=authors).flat_map(|a| [a, 1]).collect() };
+    let row = |rest: &[&[u8]]| [&[1, 1][..], &HEAD, &rest.concat()].concat();
+    let bodies: [(Vec<u8>, u64, u64); 22] = [
+        // An entry of 0, authors that fall, an author twice.
+        (vec![0, 1, 1, 0], 0, 0),
+        (vec![0, 2, 5, 1, 3, 2], 0, 0),
+        (vec![2, 2, 5, 1, 5, 2], 0, 0),
+        // 33 authors; 40 pairs of one; 32 are read.
+        ([&[0, 33][..], &pairs(33)].concat(), 4, 0),
+        ([&[0, 40][..], &[1; 80]].concat(), 4, 0),
+        ([&[0, 32][..], &pairs(32)].concat(), 0, 0),
+        // 65 rows, cut short; none.
+        ([&[1, 65][..], &[0; 65]].concat(), 4, 22),
+        ([&[1, 65][..], &[0; 65 * 8]].concat(), 4, 0),
+        (vec![1, 0], 0, 0),
+        // 17 dependencies; 257 bytes of payload; 65 of signature.
+        (row(&[&[17], &pairs(17), &[0, 0]]), 4, 0),
+        (row(&[&[0, 0x81, 2], &[7; 257], &[0]]), 4, 0),
+        (row(&[&[0, 0x81, 2], &[7; 256]]), 24, 24),
+        (row(&[&[0, 0, 65], &[7; 65]]), 4, 0),
+        (row(&[&[0, 0, 65], &[7; 64]]), 24, 24),
+        // One with no byte left, and with one.
+        (vec![0, 1], 24, 24),
+        (vec![0, 1, 1], 22, 22),
+        // A snapshot's messages, whole and cut short; tags that neither has.
+        (vec![5, 0, 0, 0, 0, 0], 29, 0),
+        (vec![6, 0], 29, 0),
+        (vec![6], 29, 22),
+        (vec![7], 29, 29),
+        (vec![0x80, 0], 29, 29),
+        (vec![], 22, 22),
+    ];
+    for (body, here, there) in bodies {
+        let (read, _) = read_message(&body);
+        let ours = read.err().map_or(0, |fault| fault.told.number);
+        let theirs = decoded(&body).err().map_or(0, |told| told.number);
+        agree(&(ours, theirs), &(here, there), || format!("{body:02x?}"))?;
+        beside.read(&body, true)?;
+    }
+    Ok(())
 }
 
 struct Beside {
