@@ -66,6 +66,15 @@ impl Lent {
     }
 }
 
+/// How many slots a body asks for, by the first byte of a Delta's count, at most 64: so many are lent where it is refused,
+/// so that a call that writes too early finds room.
+pub fn slots_asked(body: &[u8]) -> usize {
+    match body {
+        [1, count, ..] => usize::from(*count).min(ROWS),
+        _ => 0,
+    }
+}
+
 /// The message in the wrapper's form.
 pub fn wrapped_message(message: &Message) -> cuwelfra::Message {
     let clock = |pairs: &[(u64, u64)]| {

@@ -7,7 +7,7 @@ use crate::census::Numbers;
 use crate::model::messages::{bytes, clock_body, delta_body, frame_call, message_call, numbers};
 use crate::model::messages::{put, read_message, Message, AREAS};
 use crate::port::area::{self, Area, BYTES};
-use crate::port::messages::{Lent, CLOCK_AREA, ROWS, ROWS_AREA};
+use crate::port::messages::{slots_asked, Lent, CLOCK_AREA, ROWS, ROWS_AREA};
 use crate::port::rows::{Row, SLOT};
 use crate::readings::Readings;
 use crate::rng::Rng;
@@ -21,7 +21,7 @@ const SLOTS: usize = 40_000;
 const FLIPPED: usize = 6;
 
 pub fn run(rng: &mut Rng) -> Outcome {
-    let mut areas = Suite {
+    let mut areas = Areas {
         lent: Lent::new(),
         readings: Readings::default(),
         hello: Numbers::default(),
@@ -42,14 +42,14 @@ pub fn run(rng: &mut Rng) -> Outcome {
     Ok(areas.readings.cases() + hello + delta + full)
 }
 
-struct Suite {
+struct Areas {
     lent: Lent,
     readings: Readings,
     hello: Numbers,
     delta: Numbers,
 }
 
-impl Suite {
+impl Areas {
     /// Both reading calls, on areas of any lengths.
     fn reading(&mut self, rng: &mut Rng) -> Check {
         for _ in 0..BODIES {
@@ -350,7 +350,7 @@ fn lens(rng: &mut Rng, body: &[u8]) -> (usize, usize) {
     };
     let need = match read_message(body).0 {
         Ok(Message::Delta(rows)) => rows.len() * SLOT,
-        _ => rng.below(3) * SLOT,
+        _ => slots_asked(body).max(rng.below(3)) * SLOT,
     };
     let rows = match rng.below(5) {
         0 => need.saturating_sub(1),

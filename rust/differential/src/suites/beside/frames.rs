@@ -11,7 +11,7 @@ use crate::model::messages::{Answer, BODY, ENVELOPE};
 use crate::original::codec_told;
 use crate::original::messages::Alone;
 use crate::port::area::BYTES;
-use crate::port::messages::{wrapped_message, Lent};
+use crate::port::messages::{slots_asked, wrapped_message, Lent};
 use crate::port::rows::SLOT;
 use crate::readings::Readings;
 use crate::rng::Rng;
@@ -118,7 +118,13 @@ impl Beside {
     /// The model, the original and the port on one frame; the wrapper too where it is wanted.
     fn read(&mut self, frame: &[u8], wrapped: bool) -> Check {
         let (tag, number) = self.judge(frame)?;
-        let slots = (number as usize).clamp(1, 64) + 1;
+        let asked = read_envelope(frame).map_or(0, |read| {
+            slots_asked(&frame[read.body_at as usize..][..read.body_len as usize])
+        });
+        let slots = match tag {
+            1 => number as usize + 1,
+            _ => asked + 1,
+        };
         let lens = (BYTES + 8, slots * SLOT);
         let answer = frame_call(frame, lens.0, lens.1);
         let inputs = || format!("decode_frame of {frame:02x?}");

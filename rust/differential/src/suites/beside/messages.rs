@@ -6,7 +6,7 @@ use cuwelfra_sys as sys;
 use crate::model::messages::{bytes, message_call, numbers, read_message, Message, BODY};
 use crate::original::messages::{decoded, encoded, Alone};
 use crate::port::area::{self, BYTES};
-use crate::port::messages::{wrapped_message, Lent};
+use crate::port::messages::{slots_asked, wrapped_message, Lent};
 use crate::port::rows::SLOT;
 use crate::readings::Readings;
 use crate::rng::Rng;
@@ -143,9 +143,9 @@ impl Beside {
         let (read, _) = read_message(body);
         self.alone.judge(body, &read)?;
         let (tag, number) = read.as_ref().map_or((0, 0), numbers);
-        let slots = match body.first() {
-            Some(1) => (number as usize).max(1) + 1,
-            _ => 1,
+        let slots = match tag {
+            1 => number as usize + 1,
+            _ => slots_asked(body) + 1,
         };
         let lens = (BYTES + 8, slots * SLOT);
         let answer = message_call(body, lens.0, lens.1);
