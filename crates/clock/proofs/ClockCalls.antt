@@ -1,5 +1,5 @@
 -- The calls of a clock that keeps its rules: what the code finds in its columns is what its entries say.
-use Prim.Native.Nat.{ℕ, suc, _+_, _≤_, _<_}
+use Prim.Native.Nat.{ℕ, suc, _+_, _≤_, _<_, max}
 use mathlib.Core.Path.{_≡_, refl, sym, _∙_, ap}
 use mathlib.Core.Bool.{true, false, _&&_}
 use mathlib.Core.Logic.{inl, inr}
@@ -7,8 +7,8 @@ use mathlib.Core.List.{List, []}
 use native.Mathlib.Omega.{arith}
 use lib.Dec.{leb}
 use lib.ListN.{length, take, drop, getD, set, length-append, length-take, length-drop, drop-of-length-le}
-use lib.Seq.{getD-take}
-use borrow.Author.Tests.{le-leb, lt-leb, leb-true, leb-false, lt-ltb, le-ltb}
+use lib.Seq.{getD-take, set-getD}
+use borrow.Author.Tests.{le-leb, lt-leb, leb-true, leb-false, le-ltb}
 use Rattle.words.specs.Areas.{pad}
 use Rattle.words.proofs.Words.{test}
 use Rattle.error.specs.declared.Refusal.{Refusal}
@@ -17,11 +17,11 @@ use Rattle.error.specs.Answer.{Answer, done, refused, nothing, Ends, ends}
 use Rattle.clock.specs.declared.raw.Place.{Place}
 use Rattle.clock.specs.declared.raw.Place.the-variants.{Here, Gap}
 use Rattle.clock.specs.declared.vector.VectorClock.{VectorClock}
-use Rattle.clock.specs.Entries.{get, put, observe, merge, dominates}
+use Rattle.clock.specs.Entries.{get, put, observe, enter, merge, dominates}
 use Rattle.clock.specs.Vector.{authorsOf, numbersOf, entries, clockOf, sound, grown}
 use Rattle.clock.specs.inside.Columns.{search, putIn}
 use Rattle.clock.proofs.RisingAuthors.{rises-of, rising-observe}
-use Rattle.clock.proofs.EntryLaws.{merge-longer}
+use Rattle.clock.proofs.EntryLaws.{observe-enter, merge-longer}
 use Rattle.clock.proofs.ClockEntries.{length-authors, length-numbers, entries-of, sound-of, sound-few, sound-rising, used-authors, used-numbers, count-is, authors-are, numbers-are, clock-is, entry-next}
 use Rattle.clock.proofs.AuthorSearch.{Found, at-here, at-gap, found-is, ins, in-pad, set-pad}
 
@@ -136,19 +136,35 @@ module _ (c : VectorClock) (s : sound c ≡ true) (la : length (c .authors) ≡ 
       → record { answer = done nothing; left = record { authors = ks; numbers = ns; count = c .count + 1 } } ≡ grown c (put (entries c) a n) nothing
   put-gap ks ns k e ek en = put-gap′ ks ns k ek en (view (Gap i) e)
 
--- observing: a higher number is put, any other leaves the clock
-pub observe-more : (c : VectorClock) (a n have : ℕ) (r : Ends Unit VectorClock) → have ≡ get (entries c) a → have < n → r ≡ grown c (put (entries c) a n) nothing
-    → r ≡ grown c (observe (entries c) a n) nothing
-unfolding observe
-observe-more c a n have r e h q = rw (← e, lt-ltb have n h) q
+-- entering: a number that is not below is put
+pub enter-put : (c : VectorClock) (a n have : ℕ) (r : Ends Unit VectorClock) → have ≡ get (entries c) a → have ≤ n → r ≡ grown c (put (entries c) a n) nothing
+    → r ≡ grown c (enter (entries c) a n) nothing
+unfolding enter
+enter-put c a n have r e h q = let z : max (get (entries c) a) n ≡ n = omega arith in rw z q
 
-pub observe-less : (c : VectorClock) (s : sound c ≡ true) (la : length (c .authors) ≡ 32) (ln : length (c .numbers) ≡ 32) (a n have : ℕ) → have ≡ get (entries c) a
-    → n ≤ have → record { answer = done nothing; left = c } ≡ grown c (observe (entries c) a n) nothing
-unfolding observe
-observe-less c s la ln a n have e h =
-    rw (← e, le-ltb have n h)
-    ((λ j. record { answer = done nothing; left = sym (clock-is c s la ln) j })
-    ∙ grown-yes c (entries c) nothing (omega (arith, count-is c s la ln, sound-few c s)))
+module _ (c : VectorClock) (s : sound c ≡ true) (la : length (c .authors) ≡ 32) (ln : length (c .numbers) ≡ 32) where
+  -- any other leaves the one that stands there
+  pub enter-less : (a n i : ℕ) → Here i ≡ search (take (c .count) (c .authors)) a → n ≤ getD (c .numbers) i 0
+      → record { answer = done nothing; left = c } ≡ grown c (enter (entries c) a n) nothing
+  unfolding enter
+  enter-less a n i f h =
+      let e : getD (c .numbers) i 0 ≡ get (entries c) a = get-here c s la ln a n i f in
+      let z : max (get (entries c) a) n ≡ getD (c .numbers) i 0 = omega arith in
+      rw z
+      ((λ j. record { answer = done nothing; left = record { authors = c .authors; numbers = sym (set-getD (c .numbers) i 0) j; count = c .count } })
+      ∙ put-here c s la ln a (getD (c .numbers) i 0) i f)
+
+  -- observing: 0 leaves the clock, any other number is entered
+  pub observe-zero : (a n : ℕ) → n ≡ 0 → record { answer = done nothing; left = c } ≡ grown c (observe (entries c) a n) nothing
+  unfolding observe
+  observe-zero a n e =
+      rw (le-ltb (get (entries c) a) n (omega arith))
+      ((λ j. record { answer = done nothing; left = sym (clock-is c s la ln) j })
+      ∙ grown-yes c (entries c) nothing (omega (arith, count-is c s la ln, sound-few c s)))
+
+  pub observe-other : (a n : ℕ) (r : Ends Unit VectorClock) → (n ≡ 0 → ⊥) → r ≡ grown c (enter (entries c) a n) nothing
+      → r ≡ grown c (observe (entries c) a n) nothing
+  observe-other a n r h q = rw (observe-enter (entries c) a n (rises-of 0 (entries c) (sound-rising c s)) (omega (arith, h))) q
 
 -- what a known answer tells
 module _ (c : VectorClock) (es : List (ℕ × ℕ)) (q : Ends Unit VectorClock) (e : q ≡ grown c es nothing) where

@@ -1,6 +1,6 @@
 -- What grown entries tell of each author, how long they are, and what covering says.
 use Prim.Native.Nat.{ℕ, suc, _+_, _≤_, _<_, max}
-use mathlib.Core.Path.{_≡_, refl, sym, _∙_}
+use mathlib.Core.Path.{_≡_, refl, sym, _∙_, ap}
 use mathlib.Core.Bool.{Bool, true, false}
 use mathlib.Core.Logic.{inl, inr}
 use mathlib.Core.List.{List, [], _∷_}
@@ -11,7 +11,7 @@ use borrow.Author.Tests.{eqb-true, eqb-false, ltb-true, ltb-false, leb-true, le-
 use Rattle.words.specs.Choice.{pick}
 use Rattle.words.proofs.Words.{test}
 use Rattle.words.proofs.Conjunction.{and-left, and-right, and-both}
-use Rattle.clock.specs.Entries.{get, put, observe, increment, merge, dominates}
+use Rattle.clock.specs.Entries.{get, put, observe, enter, increment, merge, dominates}
 use Rattle.clock.specs.FidgeMattern.{_⊑_}
 use Rattle.clock.proofs.RisingAuthors.{Rises, none, more}
 
@@ -54,6 +54,30 @@ get-observe es a n x =
             | inr h ↦ rw (h, e) (let k : n ≤ get es x = rw z at (ltb-false (get es a) n h) in omega arith)
           ]
       | inr e ↦ elim (test (ltb (get es a) n)) [ inl h ↦ rw (h, get-put es a n x, e) | inr h ↦ rw (h, e) ]
+    ]
+
+-- an author that is present, put with its own number
+put-own : {lo : ℕ} (es : List (ℕ × ℕ)) (a : ℕ) → Rises lo es → 0 < get es a → put es a (get es a) ≡ es
+unfolding put get
+put-own [] a r h = absurd (omega arith)
+put-own ((b, m) ∷ es) a (more k r) h =
+    elim (test (eqb b a)) [
+      | inl e ↦ let z : b ≡ a = eqb-true b a e in rw (e, z)
+      | inr e ↦
+          let g : 0 < get es a = rw e at h in
+          let l : ltb a b ≡ false = elim (test (ltb a b)) [ inl l ↦ absurd (omega (arith, absent a (omega (arith, ltb-true a b l)) r)) | inr l ↦ l ] in
+          rw (e, l) (ap (λ (t : List (ℕ × ℕ)). (b, m) ∷ t) (put-own es a r g))
+    ]
+
+-- where there is something to observe, it is entered
+pub observe-enter : (es : List (ℕ × ℕ)) (a n : ℕ) {lo : ℕ} → Rises lo es → 0 < n → observe es a n ≡ enter es a n
+unfolding observe enter
+observe-enter es a n r h =
+    elim (test (ltb (get es a) n)) [
+      | inl l ↦ let z : max (get es a) n ≡ n = omega (arith, ltb-true (get es a) n l) in rw (l, z)
+      | inr l ↦
+          let z : max (get es a) n ≡ get es a = omega (arith, ltb-false (get es a) n l) in
+          rw (l, z) (sym (put-own es a r (omega (arith, ltb-false (get es a) n l))))
     ]
 
 pub get-increment : (es : List (ℕ × ℕ)) (a x : ℕ) → get (increment es a) x ≡ pick (eqb a x) (get es x + 1) (get es x)

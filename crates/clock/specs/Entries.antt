@@ -1,5 +1,5 @@
 -- A vector clock as a list of authors and their numbers, the authors strictly rising. 01: "BTreeMap in clocks: sorted array and count, by value."
-use Prim.Native.Nat.{suc, _+_}
+use Prim.Native.Nat.{suc, _+_, max}
 use mathlib.Core.Bool.{Bool, true, _&&_}
 use mathlib.Core.List.{[], _∷_}
 use lib.Dec.{eqb, ltb, leb}
@@ -24,6 +24,10 @@ put ((b, m) ∷ es) a n = pick (eqb b a) ((a, n) ∷ es) (pick (ltb a b) ((a, n)
 -- VectorClock::observe; no zero is entered. rs: "Raises the entry for actor to at least seq."
 unfoldable pub observe : Clock → Author → Seq → Clock
 observe es a n = pick (ltb (get es a) n) (put es a n) es
+
+-- the same, but that 0 is entered too. 01: "{1: 0} compares Equal to {} yet is other content"
+unfoldable pub enter : Clock → Author → Seq → Clock
+enter es a n = put es a (max (get es a) n)
 
 -- VectorClock::increment
 unfoldable pub increment : Clock → Author → Clock

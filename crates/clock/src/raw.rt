@@ -11,7 +11,7 @@ ghost use Prim.Native.Nat.{_+_, _≤_};
 ghost use lib.ListN.{length, take};
 ghost use Rattle.words.specs.Areas.{putAt};
 ghost use Rattle.clock.specs.Area.{clockAt, clockBytes};
-ghost use Rattle.clock.specs.Entries.{get, put, observe, merge, dominates};
+ghost use Rattle.clock.specs.Entries.{get, put, observe, enter, merge, dominates};
 ghost use Rattle.clock.specs.inside.Columns.{search, putIn, inColumns, roomOf};
 ghost use Rattle.clock.specs.Vector.{sound, entries, clockOf, grown, changedOf};
 ghost use Rattle.error.specs.Answer.{nothing};
@@ -115,8 +115,8 @@ pub(crate) fn entered(c: VectorClock, a: u64, n: u64) -> Changed
     }
 }
 
-// An author's number raised to at least seq, in a clock that is lent as two columns of which `count` places are used.
-pub fn observe_in(
+// An author's number raised to at least seq, 0 too, in a clock that is lent as two columns of which `count` places are used.
+pub fn enter_in(
     authors: &mut [u64],
     numbers: &mut [u64],
     count: usize,
@@ -124,7 +124,7 @@ pub fn observe_in(
     seq: u64,
 ) -> Room
     requires { ⌜ (length (now authors) ≡ 32) × (length (now numbers) ≡ 32) × (sound (inColumns (now authors) (now numbers) count) ≡ true) ⌝ }
-    ensures { λ r. ⌜ roomOf (inColumns (now (authors .entry)) (now (numbers .entry)) count) (now (authors .exit)) (now (numbers .exit)) r ≡ grown (inColumns (now (authors .entry)) (now (numbers .entry)) count) (observe (entries (inColumns (now (authors .entry)) (now (numbers .entry)) count)) (actor .0) seq) nothing ⌝ }
+    ensures { λ r. ⌜ roomOf (inColumns (now (authors .entry)) (now (numbers .entry)) count) (now (authors .exit)) (now (numbers .exit)) r ≡ grown (inColumns (now (authors .entry)) (now (numbers .entry)) count) (enter (entries (inColumns (now (authors .entry)) (now (numbers .entry)) count)) (actor .0) seq) nothing ⌝ }
 {
     let place = find(authors, count, actor.0);
     match place {
@@ -135,9 +135,6 @@ pub fn observe_in(
             Room::Count(count)
         }
         Place::Gap(i) => {
-            if seq == 0 {
-                return Room::Count(count);
-            }
             if count == 32 {
                 return Room::Full;
             }
@@ -146,6 +143,23 @@ pub fn observe_in(
             Room::Count(count + 1)
         }
     }
+}
+
+// The same in the Rust's manner: no author is entered with 0.
+pub fn observe_in(
+    authors: &mut [u64],
+    numbers: &mut [u64],
+    count: usize,
+    actor: ActorId,
+    seq: u64,
+) -> Room
+    requires { ⌜ (length (now authors) ≡ 32) × (length (now numbers) ≡ 32) × (sound (inColumns (now authors) (now numbers) count) ≡ true) ⌝ }
+    ensures { λ r. ⌜ roomOf (inColumns (now (authors .entry)) (now (numbers .entry)) count) (now (authors .exit)) (now (numbers .exit)) r ≡ grown (inColumns (now (authors .entry)) (now (numbers .entry)) count) (observe (entries (inColumns (now (authors .entry)) (now (numbers .entry)) count)) (actor .0) seq) nothing ⌝ }
+{
+    if seq == 0 {
+        return Room::Count(count);
+    }
+    enter_in(authors, numbers, count, actor, seq)
 }
 
 // An author's number raised to at least seq; refused where that is an author too many.

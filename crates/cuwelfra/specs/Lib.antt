@@ -7,3 +7,5 @@ pub mod Stores
 pub mod Peers
 pub mod Batches
 pub mod Desks
+pub mod Messages
+pub mod inside

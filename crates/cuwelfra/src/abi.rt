@@ -7,12 +7,12 @@ ghost use Rattle.cuwelfra.specs.Abi.{abi};
 pub extern "C" fn cuwelfra_abi() -> u64
     ensures { λ r. ⌜ r ≡ abi ⌝ }
 {
-    3
+    4
 }
 
 // The name has the number in it, so that what was made for another one does not link.
 #[no_mangle]
-pub extern "C" fn cuwelfra_abi_3() -> u64
+pub extern "C" fn cuwelfra_abi_4() -> u64
     ensures { λ r. ⌜ r ≡ abi ⌝ }
 {
     cuwelfra_abi()

@@ -5,6 +5,7 @@ pub mod bytes; // varints, readers, writers, envelopes
 pub mod changes; // insertion, restoring, compaction
 pub mod desk; // a desk's own rows
 pub mod hybrid; // stamps and hybrid clocks
+pub mod messages; // handshake and delta messages
 pub mod outgoing; // cutoff, delta and chunks
 pub mod peers; // the record of a peer
 pub mod rows; // rows in slots and in batches

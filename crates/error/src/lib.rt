@@ -61,6 +61,8 @@ pub enum Refusal {
     SequenceExhausted,
     // 28 other causes
     OtherCauses,
+    // 29 invalid tag
+    InvalidTag { tag: u64 },
 }
 
 // The documents' number of a refusal.
@@ -99,6 +101,7 @@ pub fn number(r: Refusal) -> u64
         Refusal::OperationTooLarge => 26,
         Refusal::SequenceExhausted => 27,
         Refusal::OtherCauses => 28,
+        Refusal::InvalidTag { tag: _ } => 29,
     }
 }
 
@@ -138,6 +141,7 @@ pub fn first(r: Refusal) -> u64
         Refusal::OperationTooLarge => 0,
         Refusal::SequenceExhausted => 0,
         Refusal::OtherCauses => 0,
+        Refusal::InvalidTag { tag } => tag,
     }
 }
 
@@ -177,6 +181,7 @@ pub fn second(r: Refusal) -> u64
         Refusal::OperationTooLarge => 0,
         Refusal::SequenceExhausted => 0,
         Refusal::OtherCauses => 0,
+        Refusal::InvalidTag { tag: _ } => 0,
     }
 }
 

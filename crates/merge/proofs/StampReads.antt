@@ -4,14 +4,14 @@ use mathlib.Core.Path.{_≡_, sym, _∙_, ap}
 use mathlib.Core.Bool.{true}
 use mathlib.Core.List.{List}
 use native.Mathlib.Omega.{arith}
-use lib.Dec.{ltb}
-use borrow.Author.Tests.{ltb-true}
 use Rattle.error.specs.declared.Refusal.{Refusal}
 use Rattle.error.specs.Answer.{Got, got, bad}
 use Rattle.clock.specs.declared.stamp.Timestamp.{Timestamp}
-use Rattle.codec.proofs.ReadSteps.{after-got, need-got}
-use Rattle.row.specs.Reading.{Head, number, readHead, readRow}
-use Rattle.row.proofs.ReadRows.{got-value}
+use Rattle.codec.specs.Reading.{getVarint, getU32}
+use Rattle.codec.proofs.ReadSteps.{after-got}
+use Rattle.row.specs.Reading.{Head, unreadable, number, getHead, readHead, readRow}
+use Rattle.row.proofs.ReadSteps.{got-value, counter-read}
+use Rattle.row.proofs.ReadRows.{readable}
 use Rattle.working.specs.inside.References.{isRead}
 use Rattle.working.specs.inside.Looks.{batchRowAt}
 use Rattle.working.proofs.ReferenceRows.{after-read, head-fields}
@@ -41,26 +41,26 @@ pub record StampRead (s : List ℕ) (at : ℕ) (stamp : Timestamp) : Type 0 wher
 
 module _ (s : List ℕ) (at : ℕ) where
   in-head : (head : Head) (next : ℕ) → readHead s at ≡ got head next → StampRead s at (head .stamp)
-  unfolding readHead
+  unfolding readHead getHead number
   in-head head next e =
-      let (wall, at₁, e₁, f₁) = after-got (number s at) _ e in
-      let (counter, at₂, e₂, f₂) = after-got (number s at₁) _ f₁ in
-      let (fits, f₃) = need-got (ltb counter (2 ^ 32)) _ _ f₂ in
-      let (stamper, at₃, e₃, f₄) = after-got (number s at₂) _ f₃ in
-      let (author, at₄, e₄, f₅) = after-got (number s at₃) _ f₄ in
-      let (seq, at₅, e₅, f₆) = after-got (number s at₄) _ f₅ in
+      let (wall, at₁, e₁, f₁) = after-got (getVarint s at) _ (readable (getHead s at) e) in
+      let (counter, at₂, e₂, f₂) = after-got (getU32 s at₁) _ f₁ in
+      let (read, fits) = counter-read s at₁ counter at₂ e₂ in
+      let (stamper, at₃, e₃, f₃) = after-got (getVarint s at₂) _ f₂ in
+      let (author, at₄, e₄, f₄) = after-got (getVarint s at₃) _ f₃ in
+      let (seq, at₅, e₅, f₅) = after-got (getVarint s at₄) _ f₄ in
       record {
         wall = wall;
         at₁ = at₁;
-        wall-is = e₁;
+        wall-is = ap unreadable e₁;
         counter = counter;
         at₂ = at₂;
-        counter-is = e₂;
-        fits = ltb-true counter (2 ^ 32) fits;
+        counter-is = ap unreadable read;
+        fits = fits;
         stamper = stamper;
         at₃ = at₃;
-        stamper-is = e₃;
-        stamp-is = sym (ap (λ (h : Head). h .stamp) (got-value f₆));
+        stamper-is = ap unreadable e₃;
+        stamp-is = sym (ap (λ (h : Head). h .stamp) (got-value f₅));
       }
 
   module _ (t : isRead (readRow s at) ≡ true) where

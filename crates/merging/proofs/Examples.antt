@@ -13,9 +13,9 @@ use Rattle.clock.specs.declared.stamp.Timestamp.{Timestamp}
 use Rattle.clock.specs.Order.{less, stampKey, stampLess}
 use Rattle.clock.specs.Entries.{get, observe, put, dominates}
 use Rattle.codec.specs.Leb128.{groups, hasLast, valueOf}
-use Rattle.codec.specs.Reading.{judged, judge, getVarint, partOf}
+use Rattle.codec.specs.Reading.{judged, judge, getVarint, getU32, partOf}
 use Rattle.row.specs.Rows.{Row, outcomeOk, workKey, workLess}
-use Rattle.row.specs.Reading.{BatchRow, number, readHead, readPair, readPairs, readDeps, readPart, readClosing, readRow}
+use Rattle.row.specs.Reading.{BatchRow, number, getHead, readHead, readPair, readPairs, readDeps, readPart, readClosing, readRow}
 use Rattle.log.specs.Store.{Mark, sameId, sameEntries}
 use Rattle.log.specs.Areas.{rowsOf}
 use Rattle.merging.specs.Batch.{Limits, limitsOk, readRows, readBatch, ownFuture, validate, validateAll}
@@ -156,7 +156,7 @@ logged-again = refl
 
 -- stands for the definitions that read a batch's bytes
 unfoldable pub reading : ℕ
-unfolding readBatch readRows readRow readHead readDeps readPairs readPair readPart readClosing number getVarint judge judged groups hasLast valueOf partOf outcomeOk
+unfolding readBatch readRows readRow readHead getHead readDeps readPairs readPair readPart readClosing number getVarint getU32 judge judged groups hasLast valueOf partOf outcomeOk
 reading = 0
 
 -- 01: "comparing rows by bytes, though 80 00 and 00 are equal values": 1:1 twice in a batch, its counter written as 00 and as 80 00

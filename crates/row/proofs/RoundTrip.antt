@@ -7,17 +7,17 @@ use native.Mathlib.Omega.{arith}
 use native.Mathlib.Numerals.{add-one}
 use lib.ListN.{length, drop, getD, length-append, length-drop}
 use lib.Seq.{drop-append-seam, getD-drop}
-use borrow.Author.Tests.{lt-ltb, le-leb}
+use borrow.Author.Tests.{le-leb}
 use Rattle.error.specs.Answer.{got}
 use Rattle.codec.specs.Leb128.{shortest}
 use Rattle.codec.specs.Writing.{sized}
 use Rattle.codec.specs.Reading.{partOf}
 use Rattle.codec.proofs.ShortestForm.{some}
-use Rattle.codec.proofs.RoundTrip.{behind, varint-there, within, part-there}
+use Rattle.codec.proofs.RoundTrip.{behind, varint-there, u32-there, within, part-there}
 use Rattle.codec.proofs.ReadSteps.{on, pass}
-use Rattle.row.specs.Rows.{Row, logged, rowOk, outcomeOk}
+use Rattle.row.specs.Rows.{Row, logged, outcomeOk}
 use Rattle.row.specs.Wire.{stampedBytes, pairBytes, depsBytes, unsignedBytes, signedBytes}
-use Rattle.row.specs.Reading.{unreadable, number, readHead, readPair, readPairs, readDeps, readPart, readClosing, batchRow, readRow}
+use Rattle.row.specs.Reading.{unreadable, number, getHead, readHead, readPair, readPairs, readDeps, readPart, readClosing, batchRow, readRow}
 use Rattle.words.proofs.Conjunction.{and-both}
 use Rattle.row.proofs.DepsPairs.{DepsOk}
 use Rattle.row.proofs.DepsPairs.DepsOk.{none, more}
@@ -101,9 +101,9 @@ module _ (s : List ℕ) (r : Row) (g : HeldGood (logged r)) where
     seq : List ℕ
     seq = shortest (r .seq)
 
-    pub head-there : got (record { stamp = r .stamp; author = r .author; seq = r .seq }) (at + length (stampedBytes r)) ≡ readHead s at
-    unfolding readHead stampedBytes wall counter stamper author seq
-    head-there =
+    pub get-head-there : got (record { stamp = r .stamp; author = r .author; seq = r .seq }) (at + length (stampedBytes r)) ≡ getHead s at
+    unfolding getHead stampedBytes wall counter stamper author seq
+    get-head-there =
         let e1 : drop at s ≡ wall ++ (counter ++ (stamper ++ (author ++ (seq ++ q)))) = e ∙ simp append-assoc in
         let e2 : drop (at + length wall) s ≡ counter ++ (stamper ++ (author ++ (seq ++ q))) = behind s at wall _ e1 in
         let e3 : drop (at + length wall + length counter) s ≡ stamper ++ (author ++ (seq ++ q)) = behind s (at + length wall) counter _ e2 in
@@ -113,13 +113,16 @@ module _ (s : List ℕ) (r : Row) (g : HeldGood (logged r)) where
         behind s (at + length wall + length counter + length stamper) author _ e4 in
         let m : at + length (wall ++ (counter ++ (stamper ++ (author ++ seq)))) ≡ at + length wall + length counter + length stamper + length author + length seq =
         simp length-append (omega arith) in
-        on _ (number-there s at _ _ (g .wall) e1)
-        (on _ (number-there s (at + length wall) _ _ (omega (arith, g .counter)) e2)
-        (pass _ _ (lt-ltb (r .stamp .«logical_counter») (2 ^ 32) (g .counter))
-        (on _ (number-there s (at + length wall + length counter) _ _ (g .stamper) e3)
-        (on _ (number-there s (at + length wall + length counter + length stamper) _ _ (g .author) e4)
-        (on _ (number-there s (at + length wall + length counter + length stamper + length author) _ _ (g .seq) e5)
-        (rw m))))))
+        on _ (varint-there s at _ _ (g .wall) e1)
+        (on _ (u32-there s (at + length wall) _ _ (g .counter) e2)
+        (on _ (varint-there s (at + length wall + length counter) _ _ (g .stamper) e3)
+        (on _ (varint-there s (at + length wall + length counter + length stamper) _ _ (g .author) e4)
+        (on _ (varint-there s (at + length wall + length counter + length stamper + length author) _ _ (g .seq) e5)
+        (rw m)))))
+
+    pub head-there : got (record { stamp = r .stamp; author = r .author; seq = r .seq }) (at + length (stampedBytes r)) ≡ readHead s at
+    unfolding readHead
+    head-there = ap unreadable get-head-there
 
   -- the whole row
   module _ (v o d at : ℕ) (q : List ℕ) (hv : v ≤ 1) (ho : outcomeOk o d ≡ true) (e : drop at s ≡ signedBytes r ++ (v ∷ o ∷ d ∷ q)) where

@@ -12,13 +12,12 @@ use Rattle.words.specs.Choice.{pick}
 use Rattle.error.specs.declared.Refusal.{Refusal}
 use Rattle.error.specs.declared.Refusal.the-variants as refusal
 use Rattle.error.specs.Answer.{Answer, done, unless, Got, got, bad}
-use Rattle.codec.specs.Reading.{getVarint}
-use Rattle.codec.proofs.RoundTrip.{ReadVarint, varint-read}
 use Rattle.clock.specs.Entries.{get}
 use Rattle.row.specs.Rows.{Row, HeldRow, workLess}
-use Rattle.row.specs.Reading.{BatchRow, number, unreadable, readHead, readRow}
+use Rattle.row.specs.Reading.{BatchRow, readHead, readRow}
 use Rattle.row.specs.Values.{rowOf, rowReadBy, OpFits}
 use Rattle.row.specs.Calls.{ReadsRow}
+use Rattle.row.proofs.ReadRows.{HeadGot, head-got}
 use Rattle.row.specs.declared.Reading.{Reading}
 use Rattle.row.specs.declared.Reading.the-variants as ended
 use Rattle.row.specs.declared.RowRead.{RowRead}
@@ -77,19 +76,12 @@ pub same-rows : (r s t : Row) (b : Bool) → r ≡ s → b ≡ sameContent r t �
 same-rows r s t b p e = rw (← p) e
 
 -- a row that is read starts within the batch
-number-got : (s : List ℕ) (at v n : ℕ) (g : Got ℕ) → g ≡ getVarint s at → unreadable g ≡ got v n → at ≤ length s
-number-got s at v n (got w m) e q =
-    let r : ReadVarint s at w m = varint-read s at w m (sym e) in
-    omega arith
-number-got s at v n (bad f) e q = absurd (let z : _≡_ {A = ℕ} 0 1 = cc in omega arith)
-
 pub read-inside : (s : List ℕ) (at : ℕ) → isRead (readRow s at) ≡ true → at ≤ length s
-unfolding readRow readHead number
+unfolding readRow
 read-inside s at t =
-    let h = after-read (readHead s at) _ t in
-    let k : isRead (readHead s at) ≡ true = rw (h .2) in
-    let n = after-read (number s at) _ k in
-    number-got s at (n .0) (n .1) (getVarint s at) refl (n .2)
+    let (head, next, e) = after-read (readHead s at) _ t in
+    let h : HeadGot s at head next = head-got s at head next e in
+    omega (arith, h .onward, h .inside)
 
 -- ---- the place among the working rows
 place-later : (n : ℕ) (f : Found) → placeIn (suc n) (later f) ≡ suc (placeIn n f)

@@ -86,6 +86,9 @@ enum-told-14 c = search needs
 enum-told-15 : tie.Need-enum-told-15
 enum-told-15 c = search needs
 
+enum-known-r-14 : tie.Need-enum-known-r-14
+enum-known-r-14 c = search needs
+
 returns : tie.Need-returns
 returns c = rw (c .enum-told .given .1)
 
@@ -170,6 +173,9 @@ returns-27 c = rw (c .enum-told14 .given .1)
 returns-28 : tie.Need-returns-28
 returns-28 c = rw (c .enum-told15 .given .1)
 
+returns-29 : tie.Need-returns-29
+returns-29 c = rw (c .before .r14 .given .1)
+
 pub first-spec : {M : Type 1} → statement M
 first-spec =
     tie.close
@@ -202,6 +208,7 @@ first-spec =
     enum-told-13
     enum-told-14
     enum-told-15
+    enum-known-r-14
     returns
     returns-2
     returns-3
@@ -229,4 +236,5 @@ first-spec =
     returns-25
     returns-26
     returns-27
-    returns-28)
+    returns-28
+    returns-29)

@@ -86,6 +86,9 @@ enum-told-16 c = search needs
 enum-told-17 : tie.Need-enum-told-17
 enum-told-17 c = search needs
 
+enum-told-18 : tie.Need-enum-told-18
+enum-told-18 c = search needs
+
 returns : tie.Need-returns
 returns c = rw (c .enum-told .given .1)
 
@@ -170,6 +173,9 @@ returns-27 c = rw (c .enum-told16 .given .1)
 returns-28 : tie.Need-returns-28
 returns-28 c = rw (c .enum-told17 .given .1)
 
+returns-29 : tie.Need-returns-29
+returns-29 c = rw (c .enum-told18 .given .1)
+
 pub second-spec : {M : Type 1} → statement M
 second-spec =
     tie.close
@@ -202,6 +208,7 @@ second-spec =
     enum-told-15
     enum-told-16
     enum-told-17
+    enum-told-18
     returns
     returns-2
     returns-3
@@ -229,4 +236,5 @@ second-spec =
     returns-25
     returns-26
     returns-27
-    returns-28)
+    returns-28
+    returns-29)

@@ -1,0 +1,9 @@
+pub mod CountedReads
+pub mod ClockPairs
+pub mod SignedRows
+pub mod RowLoops
+pub mod Bodies
+pub mod Decoding
+pub mod TaggedWrites
+pub mod DeltaWrites
+pub mod RoundTrip

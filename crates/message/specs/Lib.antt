@@ -1,0 +1,5 @@
+pub mod Messages
+pub mod Reading
+pub mod Calls
+pub mod RoundTrip
+pub mod inside

@@ -1,0 +1,31 @@
+-- 02: "What the writer makes of a message within our capacities, the reader turns into that message again." Statements; their proofs stand in
+-- proofs/RoundTrip.antt.
+use Prim.Native.Nat.{ℕ, _*_, _^_, _≤_, _<_}
+use mathlib.Core.Path.{_≡_}
+use mathlib.Core.Bool.{true}
+use lib.ListN.{length}
+use Rattle.words.specs.Names.{Bytes, Area}
+use Rattle.words.specs.Sizes.{clockSize, slotSize}
+use Rattle.error.specs.Answer.{done}
+use Rattle.codec.specs.Reading.{partOf}
+use Rattle.codec.specs.Envelopes.{maxSignature, Envelope, envelope}
+use Rattle.message.specs.Messages.{Message, messageOk, messageBytes}
+use Rattle.message.specs.Reading.{readMessage, readFrame}
+use Rattle.message.specs.Calls.{rowCount, messageCall}
+
+-- alone
+abbrev pub MessageBack : Type 0
+MessageBack = (m : Message) → messageOk m ≡ true → readMessage (messageBytes m) ≡ done m
+
+-- inside an envelope, which comes back too
+abbrev pub FrameBack : Type 0
+FrameBack =
+    (m : Message) (sender : ℕ) (sig : Bytes) → messageOk m ≡ true → sender < 2 ^ 64 → length sig ≤ maxSignature
+    → (e : Envelope) × (readFrame (envelope sender (messageBytes m) sig) ≡ done (record { envelope = e; message = m })) × (e .sender ≡ sender)
+    × (partOf (envelope sender (messageBytes m) sig) (e .body) ≡ messageBytes m) × (partOf (envelope sender (messageBytes m) sig) (e .sig) ≡ sig)
+
+-- so the calls: in areas that are long enough
+abbrev pub CallsBack : Type 0
+CallsBack =
+    (m : Message) (clock rows : Area) → messageOk m ≡ true → clockSize ≤ length clock → slotSize * rowCount m ≤ length rows
+    → messageCall (messageBytes m) clock rows ≡ done m

@@ -1,0 +1,2 @@
+pub mod ReaderParts
+pub mod WriterParts
