@@ -7,3 +7,4 @@ pub mod Decoding
 pub mod TaggedWrites
 pub mod DeltaWrites
 pub mod RoundTrip
+pub mod WithinCapacity

@@ -6,6 +6,7 @@ use mathlib.Core.Bool.{true}
 use lib.ListN.{length}
 use Rattle.words.specs.Names.{Bytes, Area}
 use Rattle.words.specs.Sizes.{clockSize, slotSize}
+use Rattle.words.specs.Be.{AllBytes}
 use Rattle.error.specs.Answer.{done}
 use Rattle.codec.specs.Reading.{partOf}
 use Rattle.codec.specs.Envelopes.{maxSignature, Envelope, envelope}
@@ -29,3 +30,11 @@ abbrev pub CallsBack : Type 0
 CallsBack =
     (m : Message) (clock rows : Area) → messageOk m ≡ true → clockSize ≤ length clock → slotSize * rowCount m ≤ length rows
     → messageCall (messageBytes m) clock rows ≡ done m
+
+-- what is read of bytes is within our capacities
+abbrev pub ReadWithin : Type 0
+ReadWithin = (s : Bytes) (m : Message) → AllBytes s → readMessage s ≡ done m → messageOk m ≡ true
+
+-- so that it can be written, and comes back, however it was spelled
+abbrev pub ReadAgain : Type 0
+ReadAgain = (s : Bytes) (m : Message) → AllBytes s → readMessage s ≡ done m → readMessage (messageBytes m) ≡ done m
