@@ -8,3 +8,4 @@ pub mod TaggedWrites
 pub mod DeltaWrites
 pub mod RoundTrip
 pub mod WithinCapacity
+pub mod HeldInAreas

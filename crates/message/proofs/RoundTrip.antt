@@ -7,6 +7,7 @@ use native.Mathlib.Omega.{arith}
 use lib.Dec.{leb}
 use lib.ListN.{length, drop, length-append}
 use borrow.Author.Tests.{le-ltb, le-leb, leb-true, ltb-true, ne-eqb}
+use Rattle.words.specs.Lists.{all}
 use Rattle.words.proofs.Conjunction.{and-left, and-right}
 use Rattle.error.specs.Answer.{done, got}
 use Rattle.clock.specs.Entries.{rising, get, put, enter}
@@ -26,7 +27,8 @@ use Rattle.row.proofs.WireLengths.{length-signed}
 use Rattle.row.proofs.CanonicalSlot.{HeldGood}
 use Rattle.row.proofs.RowBounds.{row-good}
 use Rattle.row.proofs.RoundTrip.{get-head-there}
-use Rattle.message.specs.Messages.{Message, hello, delta, ack, ping, pong, clockOk, rowsOk, messageOk, rowsBytes, messageBytes}
+use Rattle.log.specs.Store.{clockOk}
+use Rattle.message.specs.Messages.{Message, hello, delta, ack, ping, pong, messageOk, rowsBytes, messageBytes}
 use Rattle.message.specs.Reading.{countWithin, bytesWithin, getPair, getPairs, getClock, getSigned, getRows, getBody, readMessage, readFrame}
 use Rattle.message.specs.Calls.{rowCount, messageCall}
 use Rattle.message.specs.RoundTrip.{MessageBack, FrameBack, CallsBack}
@@ -187,16 +189,16 @@ unfolding rowsBytes
 rows-long [] = omega arith
 rows-long (r ∷ rs) = omega (arith, signed-long r, rows-long rs, length-append (signedBytes r) (rowsBytes rs))
 
-pub rows-there : (s : List ℕ) (at : ℕ) (rs : List Row) (q : List ℕ) → rowsOk rs ≡ true → drop at s ≡ rowsBytes rs ++ q
+pub rows-there : (s : List ℕ) (at : ℕ) (rs : List Row) (q : List ℕ) → all rowOk rs ≡ true → drop at s ≡ rowsBytes rs ++ q
     → got rs (at + length (rowsBytes rs)) ≡ getRows s (length rs) at
-unfolding getRows rowsBytes rowsOk
+unfolding getRows rowsBytes all
 rows-there s at [] q h e = let z : at + 0 ≡ at = omega arith in rw z
 rows-there s at (r ∷ rs) q h e =
     let f : drop at s ≡ signedBytes r ++ (rowsBytes rs ++ q) = e ∙ append-assoc (signedBytes r) (rowsBytes rs) q in
     let k : drop (at + length (signedBytes r)) s ≡ rowsBytes rs ++ q = behind s at (signedBytes r) _ f in
     let m : at + length (signedBytes r ++ rowsBytes rs) ≡ at + length (signedBytes r) + length (rowsBytes rs) = simp length-append (omega arith) in
     on _ (sym (signed-there s r (row-good r (and-left _ _ h)) at _ f))
-    (on _ (sym (rows-there s (at + length (signedBytes r)) rs q (and-right (rowOk r) (rowsOk rs) h) k)) (rw m))
+    (on _ (sym (rows-there s (at + length (signedBytes r)) rs q (and-right (rowOk r) (all rowOk rs) h) k)) (rw m))
 
 -- ---- messages
 ended : (s : List ℕ) (at : ℕ) → length s ≤ at → finish s at ≡ done at
@@ -219,8 +221,8 @@ stands tag rest = sym (append-nil rest)
 clock-good : (es : List (ℕ × ℕ)) → clockOk es ≡ true → (length es ≤ 32) × DepsOk 0 es
 unfolding clockOk
 clock-good es h =
-    let t : (rising 0 es && wordPairs es) ≡ true = and-right (leb (length es) 32) (rising 0 es && wordPairs es) h in
-    (leb-true _ _ (and-left _ _ h), deps-of 0 es (and-left _ _ t) (and-right (rising 0 es) (wordPairs es) t))
+    let t : (leb (length es) 32 && rising 0 es) ≡ true = and-left _ _ h in
+    (leb-true _ _ (and-left _ _ t), deps-of 0 es (and-right (leb (length es) 32) (rising 0 es) t) (and-right (leb (length es) 32 && rising 0 es) (wordPairs es) h))
 
 pub message-back : MessageBack
 unfolding messageOk messageBytes getBody
@@ -234,7 +236,7 @@ message-back (delta rs) h =
     let e : drop 1 (1 ∷ body) ≡ shortest (length rs) ++ (rowsBytes rs ++ []) = ap (λ (t : List ℕ). shortest (length rs) ++ t) (sym (append-nil (rowsBytes rs))) in
     let l : length rs ≤ length (rowsBytes rs ++ []) = omega (arith, rows-long rs, ap length (append-nil (rowsBytes rs))) in
     let count = count-within-there (1 ∷ body) 1 4096 64 (length rs) (rowsBytes rs ++ []) (omega arith) (omega arith) k l e in
-    let rows = rows-there (1 ∷ body) (1 + length (shortest (length rs))) rs [] (and-right (leb (length rs) 64) (rowsOk rs) h) (behind _ 1 (shortest (length rs)) _ e) in
+    let rows = rows-there (1 ∷ body) (1 + length (shortest (length rs))) rs [] (and-right (leb (length rs) 64) (all rowOk rs) h) (behind _ 1 (shortest (length rs)) _ e) in
     whole 1 body (delta rs) _ (simp length-append (omega arith)) (on _ (sym (on _ (sym count) rows)) refl)
 message-back (ack es) h =
     let g : (length es ≤ 32) × DepsOk 0 es = clock-good es h in
@@ -285,19 +287,19 @@ signed-short r g =
       sized-short (r .signature) 64 (g .few .signature) (omega arith),
     )
 
-rows-short : (rs : List Row) → rowsOk rs ≡ true → length (rowsBytes rs) ≤ 720 * length rs
-unfolding rowsBytes rowsOk
+rows-short : (rs : List Row) → all rowOk rs ≡ true → length (rowsBytes rs) ≤ 720 * length rs
+unfolding rowsBytes all
 rows-short [] h = omega arith
 rows-short (r ∷ rs) h =
     omega
-    (arith, signed-short r (row-good r (and-left _ _ h)), rows-short rs (and-right (rowOk r) (rowsOk rs) h), length-append (signedBytes r) (rowsBytes rs))
+    (arith, signed-short r (row-good r (and-left _ _ h)), rows-short rs (and-right (rowOk r) (all rowOk rs) h), length-append (signedBytes r) (rowsBytes rs))
 
 pub message-short : (m : Message) → messageOk m ≡ true → length (messageBytes m) ≤ maxFrame
 unfolding messageOk messageBytes
 message-short (hello es) h = let g : (length es ≤ 32) × DepsOk 0 es = clock-good es h in omega (arith, deps-short es 32 (g .0) (omega arith) (g .1))
 message-short (delta rs) h =
     let k : length rs ≤ 64 = leb-true _ _ (and-left _ _ h) in
-    omega (arith, ten (length rs) (omega arith), rows-short rs (and-right (leb (length rs) 64) (rowsOk rs) h), length-append (shortest (length rs)) (rowsBytes rs))
+    omega (arith, ten (length rs) (omega arith), rows-short rs (and-right (leb (length rs) 64) (all rowOk rs) h), length-append (shortest (length rs)) (rowsBytes rs))
 message-short (ack es) h = let g : (length es ≤ 32) × DepsOk 0 es = clock-good es h in omega (arith, deps-short es 32 (g .0) (omega arith) (g .1))
 message-short (ping n) h = omega (arith, ten n (ltb-true _ _ h))
 message-short (pong n) h = omega (arith, ten n (ltb-true _ _ h))

@@ -10,6 +10,7 @@ use lib.ListN.{length, drop, length-drop}
 use lib.Seq.{length-take-le}
 use borrow.Author.Tests.{eqb-true, eqb-false, ltb-true, ltb-false, lt-ltb, le-leb}
 use Rattle.words.specs.Be.{AllBytes}
+use Rattle.words.specs.Lists.{all}
 use Rattle.words.proofs.Words.{test, bytes-part}
 use Rattle.words.proofs.Conjunction.{and-both}
 use Rattle.error.specs.declared.Refusal.the-variants.{InvalidTag}
@@ -25,7 +26,8 @@ use Rattle.row.proofs.DepsPairs.DepsOk.{none, more}
 use Rattle.row.proofs.ReadRows.{HeadGot, get-head-got}
 use Rattle.row.proofs.ReadSteps.{got-value}
 use Rattle.row.proofs.RowBounds.{good-row}
-use Rattle.message.specs.Messages.{Message, hello, delta, ack, ping, pong, clockOk, rowsOk, messageOk}
+use Rattle.log.specs.Store.{clockOk}
+use Rattle.message.specs.Messages.{Message, hello, delta, ack, ping, pong, messageOk}
 use Rattle.message.specs.Reading.{countWithin, bytesWithin, getPair, getPairs, getClock, signedRow, getSigned, getRows, messageBy, getBody, readMessage, maxDeps, maxOps}
 use Rattle.message.specs.RoundTrip.{ReadWithin, ReadAgain}
 use Rattle.message.proofs.CountedReads.{PartGot, part-got, count-got}
@@ -78,7 +80,7 @@ clock-ok : (s : List ℕ) (at : ℕ) (es : List (ℕ × ℕ)) (next : ℕ) → g
 unfolding clockOk
 clock-ok s at es next e =
     let o = clock-words 32 s at es next e in
-    and-both _ _ (le-leb (length es) 32 (clock-got 32 s at es next e .few)) (and-both _ _ (deps-rising o) (deps-words o))
+    and-both _ _ (and-both _ _ (le-leb (length es) 32 (clock-got 32 s at es next e .few)) (deps-rising o)) (deps-words o)
 
 -- ---- rows
 module _ (s : List ℕ) (bs : AllBytes s) where
@@ -120,13 +122,13 @@ module _ (s : List ℕ) (bs : AllBytes s) where
       (good (a .0) (b .0) (c .0) (d .0) at (a .1) (get-head-got s at (a .0) (a .1) (a .2)) (clock-words 16 s (a .1) (b .0) (b .1) (b .2))
       (clock-got 16 s (a .1) (b .0) (b .1) (b .2) .few) (part-got 1048576 256 s (b .1) (c .0) (c .1) (c .2)) (part-got 1024 64 s (c .1) (d .0) (d .1) (d .2)))
 
-  rows-ok : (n at : ℕ) (rs : List Row) (next : ℕ) → getRows s n at ≡ got rs next → rowsOk rs ≡ true
-  unfolding getRows rowsOk
-  rows-ok zero at rs next e = subst (λ (x : List Row). rowsOk x ≡ true) (got-value e) refl
+  rows-ok : (n at : ℕ) (rs : List Row) (next : ℕ) → getRows s n at ≡ got rs next → all rowOk rs ≡ true
+  unfolding getRows all
+  rows-ok zero at rs next e = subst (λ (x : List Row). all rowOk x ≡ true) (got-value e) refl
   rows-ok (suc n) at rs next e =
       let x = after-got (getSigned s at) _ e in
       let y = after-got (getRows s n (x .1)) _ (x .3) in
-      subst (λ (x : List Row). rowsOk x ≡ true) (got-value (y .3)) (and-both _ _ (row-ok at (x .0) (x .1) (x .2)) (rows-ok n (x .1) (y .0) (y .1) (y .2)))
+      subst (λ (x : List Row). all rowOk x ≡ true) (got-value (y .3)) (and-both _ _ (row-ok at (x .0) (x .1) (x .2)) (rows-ok n (x .1) (y .0) (y .1) (y .2)))
 
   -- ---- messages
   made : {A : Type 0} (make : A → Message) (g : Got A) {m : Message} {n : ℕ} → messageBy make g ≡ got m n

@@ -1,15 +1,16 @@
 -- The messages of src/sync.rs, and the bytes that `BinaryCodec` of src/codec.rs makes of them. 02: "Tags and layouts come from that file."
 use Prim.Native.Nat.{ℕ, _^_}
-use mathlib.Core.Bool.{Bool, true, _&&_}
+use mathlib.Core.Bool.{Bool, _&&_}
 use mathlib.Core.List.{List, [], _∷_, _++_}
 use lib.ListN.{length}
 use lib.Dec.{ltb, leb}
 use Rattle.words.specs.Names.{Bytes, Clock}
-use Rattle.words.specs.Sizes.{mostAuthors, mostBatch}
-use Rattle.clock.specs.Entries.{rising}
+use Rattle.words.specs.Sizes.{mostBatch}
+use Rattle.words.specs.Lists.{all}
 use Rattle.codec.specs.Leb128.{shortest}
-use Rattle.row.specs.Rows.{Row, rowOk, wordPairs}
+use Rattle.row.specs.Rows.{Row, rowOk}
 use Rattle.row.specs.Wire.{depsBytes, signedBytes}
+use Rattle.log.specs.Store.{clockOk}
 
 -- 02: "Hello, Delta, Ack, Ping and Pong": the Rust's Message without the snapshots
 pub data Message : Type 0 where
@@ -21,18 +22,10 @@ pub data Message : Type 0 where
 
 -- ---- 02: "a message within our capacities"
 
--- a clock of at most 32 authors, which rise; a number may be 0
-unfoldable pub clockOk : Clock → Bool
-clockOk es = leb (length es) mostAuthors && (rising 0 es && wordPairs es)
-
-unfoldable pub rowsOk : List Row → Bool
-rowsOk [] = true
-rowsOk (r ∷ rs) = rowOk r && rowsOk rs
-
--- as many rows as a batch takes
+-- a clock of at most 32 authors, which rise, an entry of number 0 like any other; as many rows as a batch takes
 unfoldable pub messageOk : Message → Bool
 messageOk (hello es) = clockOk es
-messageOk (delta rs) = leb (length rs) mostBatch && rowsOk rs
+messageOk (delta rs) = leb (length rs) mostBatch && all rowOk rs
 messageOk (ack es) = clockOk es
 messageOk (ping n) = ltb n (2 ^ 64)
 messageOk (pong n) = ltb n (2 ^ 64)
