@@ -48,7 +48,10 @@ same-length-2 : tie.Need-same-length-2
 same-length-2 c = search needs
 
 returns-3 : tie.Need-returns-3
-returns-3 c = frame-unread _ _ _ (c .before .before .before .before .before .before .before .before .before .before .before .before .before .before .before .if1 .left) (c .before .before .before .before .before .before .before .before .before .before .before .before .before .before .read-envelope .ensures) (c .before .before .before .before .before .before .before .before .before .before .before .before .read2 .given .1) _ _ _ (body-part _ _ _) (c .before .before .before .before .before .before .before .decode-message .ensures) (c .before .told .given .1)
+returns-3 c =
+    let at = c .before .before .before .before .before .before .before in
+    let at₂ = at .before .before .before .before .before in
+    frame-unread _ _ _ (at₂ .before .before .before .if1 .left) (at₂ .before .before .read-envelope .ensures) (at₂ .read2 .given .1) _ _ _ (body-part _ _ _) (at .decode-message .ensures) (c .before .told .given .1)
 
 same-length-3 : tie.Need-same-length-3
 same-length-3 c = search needs
@@ -57,7 +60,10 @@ same-length-4 : tie.Need-same-length-4
 same-length-4 c = search needs
 
 returns-4 : tie.Need-returns-4
-returns-4 c = frame-read _ _ _ (c .before .before .before .before .before .before .before .before .before .before .before .before .before .before .before .if1 .left) (c .before .before .before .before .before .before .before .before .before .before .before .before .before .before .read-envelope .ensures) (c .before .before .before .before .before .before .before .before .before .before .before .before .read2 .given .1) _ _ _ (body-part _ _ _) (c .before .before .before .before .before .before .before .decode-message .ensures) (c .before .told2 .given .1)
+returns-4 c =
+    let at = c .before .before .before .before .before .before .before in
+    let at₂ = at .before .before .before .before .before in
+    frame-read _ _ _ (at₂ .before .before .before .if1 .left) (at₂ .before .before .read-envelope .ensures) (at₂ .read2 .given .1) _ _ _ (body-part _ _ _) (at .decode-message .ensures) (c .before .told2 .given .1)
 
 pub decode-frame-spec : {M : Type 1} → statement M
 decode-frame-spec =

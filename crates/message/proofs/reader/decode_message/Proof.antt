@@ -33,12 +33,14 @@ enum-known-kind c = search needs
 
 returns-3 : tie.Need-returns-3
 returns-3 c =
-    let w = delta-told (told _ (c .before .before .before .before .before .before .read-body .result) (c .before .before .before .before .before .before .read-body .ensures) (c .before .before .before .before .enum-told .given .1)) (c .before .before .kind .given .1) in
-    short-rows _ _ _ (c .before .before .before .before .before .before .before .if1 .left) _ _ (w .rs) (w .is) (w .count) (c .if2 .taken) refl refl
+    let at = c .before .before .before .before .before .before in
+    let w = delta-told (told _ (at .read-body .result) (at .read-body .ensures) (c .before .before .before .before .enum-told .given .1)) (c .before .before .kind .given .1) in
+    short-rows _ _ _ (at .before .if1 .left) _ _ (w .rs) (w .is) (w .count) (c .if2 .taken) refl refl
 
 write-delta-requires : tie.Need-write-delta-requires
 write-delta-requires c κs =
-    let w = delta-told (told _ (c .before .before .before .before .before .before .before .read-body .result) (c .before .before .before .before .before .before .before .read-body .ensures) (c .before .before .before .before .before .enum-told .given .1)) (c .before .before .before .kind .given .1) in
+    let at = c .before .before .before .before .before in
+    let w = delta-told (told _ (at .before .before .read-body .result) (at .before .before .read-body .ensures) (at .enum-told .given .1)) (c .before .before .before .kind .given .1) in
     is-delta _ _ (w .rs) (w .is) (w .count) (c .before .if2 .left)
 
 enum-told-4 : tie.Need-enum-told-4
@@ -58,24 +60,28 @@ same-length c = search needs
 
 returns-4 : tie.Need-returns-4
 returns-4 c =
-    let w = hello-told (told _ (c .before .before .before .before .before .before .before .before .read-body .result) (c .before .before .before .before .before .before .before .before .read-body .ensures) (c .before .before .before .before .before .before .enum-told .given .1)) (c .before .before .before .before .enum-told3 .given .1) in
-    read-hello _ _ _ (c .before .before .before .before .before .before .before .before .before .if1 .left) _ _ (w .es) (w .is) (c .before .before .before .before .enum-told3 .given .1) (w .clock) (c .before .before .store-clock .ensures) refl
+    let at = c .before .before .before .before .before .before in
+    let w = hello-told (told _ (at .before .before .read-body .result) (at .before .before .read-body .ensures) (at .enum-told .given .1)) (c .before .before .before .before .enum-told3 .given .1) in
+    read-hello _ _ _ (at .before .before .before .if1 .left) _ _ (w .es) (w .is) (c .before .before .before .before .enum-told3 .given .1) (w .clock) (c .before .before .store-clock .ensures) refl
 
 same-length-2 : tie.Need-same-length-2
 same-length-2 c = search needs
 
 returns-5 : tie.Need-returns-5
 returns-5 c =
-    let w = delta-told (told _ (c .before .before .before .before .before .before .before .before .before .before .read-body .result) (c .before .before .before .before .before .before .before .before .before .before .read-body .ensures) (c .before .before .before .before .before .before .before .before .enum-told .given .1)) (c .before .before .before .before .before .before .kind .given .1) in
-    read-delta _ _ _ (c .before .before .before .before .before .before .before .before .before .before .before .if1 .left) _ _ (w .rs) (w .is) (w .count) refl (c .before .before .before .before .if2 .left) refl (c .before .before .write-delta .ensures)
+    let at = c .before .before .before .before .before .before in
+    let at₂ = at .before .before .before .before .before in
+    let w = delta-told (told _ (at .before .before .before .before .read-body .result) (at .before .before .before .before .read-body .ensures) (at .before .before .enum-told .given .1)) (at .kind .given .1) in
+    read-delta _ _ _ (at₂ .if1 .left) _ _ (w .rs) (w .is) (w .count) refl (c .before .before .before .before .if2 .left) refl (c .before .before .write-delta .ensures)
 
 same-length-3 : tie.Need-same-length-3
 same-length-3 c = search needs
 
 returns-6 : tie.Need-returns-6
 returns-6 c =
-    let w = ack-told (told _ (c .before .before .before .before .before .before .before .before .read-body .result) (c .before .before .before .before .before .before .before .before .read-body .ensures) (c .before .before .before .before .before .before .enum-told .given .1)) (c .before .before .before .before .enum-told4 .given .1) in
-    read-ack _ _ _ (c .before .before .before .before .before .before .before .before .before .if1 .left) _ _ (w .es) (w .is) (c .before .before .before .before .enum-told4 .given .1) (w .clock) (c .before .before .store-clock2 .ensures) refl
+    let at = c .before .before .before .before .before .before in
+    let w = ack-told (told _ (at .before .before .read-body .result) (at .before .before .read-body .ensures) (at .enum-told .given .1)) (c .before .before .before .before .enum-told4 .given .1) in
+    read-ack _ _ _ (at .before .before .before .if1 .left) _ _ (w .es) (w .is) (c .before .before .before .before .enum-told4 .given .1) (w .clock) (c .before .before .store-clock2 .ensures) refl
 
 returns-7 : tie.Need-returns-7
 returns-7 c = read-ping _ _ _ (c .before .before .before .before .before .if1 .left) _ _ (ping-told (told _ (c .before .before .before .before .read-body .result) (c .before .before .before .before .read-body .ensures) (c .before .before .enum-told .given .1)) (c .enum-told5 .given .1)) (c .enum-told5 .given .1) refl refl

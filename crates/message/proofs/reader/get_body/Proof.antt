@@ -48,7 +48,9 @@ no-body-requires-2 : tie.Need-no-body-requires-2
 no-body-requires-2 c κs = search needs
 
 returns-5 : tie.Need-returns-5
-returns-5 c = c .no-body2 .ensures ∙ body-nonce _ _ _ (c .before .before .before .before .before .before .before .before .if1 .left) (c .before .before .before .before .before .before .before .if2 .left) (c .before .before .before .before .before .before .if3 .left) (c .before .before .before .before .before .if4 .left) (number-refused (c .before .before .before .before .get-varint .ensures) (c .before .before .enum-told .given .1) (c .before .number-fault .ensures))
+returns-5 c =
+    let at = c .before .before .before .before .before in
+    c .no-body2 .ensures ∙ body-nonce _ _ _ (at .before .before .before .if1 .left) (at .before .before .if2 .left) (at .before .if3 .left) (at .if4 .left) (number-refused (c .before .before .before .before .get-varint .ensures) (c .before .before .enum-told .given .1) (c .before .number-fault .ensures))
 
 plain-body-requires : tie.Need-plain-body-requires
 plain-body-requires c κs = search needs
@@ -60,7 +62,9 @@ plain-body-requires-2 : tie.Need-plain-body-requires-2
 plain-body-requires-2 c κs = search needs
 
 returns-7 : tie.Need-returns-7
-returns-7 c = c .plain-body2 .ensures ∙ body-pong _ _ _ (c .before .before .before .before .before .before .before .before .before .if1 .left) (c .before .before .before .before .before .before .before .before .if2 .left) (c .before .before .before .before .before .before .before .if3 .left) (c .before .before .before .before .before .before .if4 .left) (c .before .if5 .left) (value-read (c .before .before .before .before .before .get-varint .ensures) (c .before .before .before .nonce .given .1))
+returns-7 c =
+    let at = c .before .before .before .before .before in
+    c .plain-body2 .ensures ∙ body-pong _ _ _ (at .before .before .before .before .if1 .left) (at .before .before .before .if2 .left) (at .before .before .if3 .left) (at .before .if4 .left) (c .before .if5 .left) (value-read (at .get-varint .ensures) (c .before .before .before .nonce .given .1))
 
 pub get-body-spec : {M : Type 1} → statement M
 get-body-spec =

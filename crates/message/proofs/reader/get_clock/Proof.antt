@@ -55,10 +55,11 @@ no-clock-requires-2 c κs = search needs
 
 returns-2 : tie.Need-returns-2 Inv-loop μ-loop
 returns-2 c =
-    let at = c .before .before .before .before .before .before in
+    let at = c .before .before .before .before .before in
+    let at₂ = at .before .before .before .before .before in
     c .no-clock2 .ensures
-    ∙ counted _ _ _ (value-read (at .before .before .before .before .count-within .ensures) (at .before .before .told .given .1))
-    (entering-stops (at .loop .inv .2) (c .before .before .before .before .before .loop-test .taken) (pair-refused (c .before .before .before .before .get-pair .ensures) (c .before .before .enum-told2 .given .1) (c .before .pair-fault .ensures)))
+    ∙ counted _ _ _ (value-read (at₂ .count-within .ensures) (at .before .before .before .told .given .1))
+    (entering-stops (at .before .loop .inv .2) (at .loop-test .taken) (pair-refused (c .before .before .before .before .get-pair .ensures) (c .before .before .enum-told2 .given .1) (c .before .pair-fault .ensures)))
 
 slice-aggregate-enter-in : tie.Need-slice-aggregate-enter-in Inv-loop μ-loop
 slice-aggregate-enter-in c = search needs
@@ -82,10 +83,11 @@ no-clock-requires-3 c κs = search needs
 
 returns-3 : tie.Need-returns-3 Inv-loop μ-loop
 returns-3 c =
-    let at = c .before .before .before .before .before .before .before .before .before .before .before .before .before in
+    let at = c .before .before .before .before .before in
+    let at₂ = at .before .before .before .before .before .before in
     absurd
-    (entering-room (at .loop .inv .2) (c .before .before .before .before .before .before .before .before .before .before .before .before .loop-test .taken) _ _ _ (pair-read (c .before .before .before .before .before .before .before .before .before .before .before .get-pair .ensures) (c .before .before .before .before .before .before .before .before .before .pair .given .1))
-    (ap (roomOf (inColumns (at .loop .authors) (at .loop .numbers) (at .loop .count)) (c .before .before .before .before .before .enter-in .last .0) (c .before .before .before .before .before .enter-in .last .1 .0)) (sym (c .before .enum-told3 .given .1)) ∙ c .before .before .before .before .before .enter-in .ensures))
+    (entering-room (at₂ .before .before .loop .inv .2) (at₂ .before .loop-test .taken) _ _ _ (pair-read (at₂ .get-pair .ensures) (at .before .before .before .before .pair .given .1))
+    (ap (roomOf (inColumns (at₂ .before .before .loop .authors) (at₂ .before .before .loop .numbers) (at₂ .before .before .loop .count)) (at .enter-in .last .0) (at .enter-in .last .1 .0)) (sym (c .before .enum-told3 .given .1)) ∙ at .enter-in .ensures))
 
 add-i : tie.Need-add-i Inv-loop μ-loop
 add-i c = search needs
@@ -95,17 +97,17 @@ loop-less c = search needs
 
 loop-again : tie.Need-loop-again Inv-loop μ-loop
 loop-again c =
-    let at = c .before .before .before .before .before .before .before .before .before .before .before .before .before in (
+    let at = c .before .before .before .before .before in
+    let at₂ = at .before .before .before .before .before .before in (
       search needs,
       search needs,
-      entering-more (at .loop .inv .2) (c .before .before .before .before .before .before .before .before .before .before .before .before .loop-test .taken) _ _ _ (pair-read (c .before .before .before .before .before .before .before .before .before .before .before .get-pair .ensures) (c .before .before .before .before .before .before .before .before .before .pair .given .1)) _ _ _
-          (ap (roomOf (inColumns (at .loop .authors) (at .loop .numbers) (at .loop .count)) (c .before .before .before .before .before .enter-in .last .0) (c .before .before .before .before .before .enter-in .last .1 .0)) (sym (c .before .room .given .1)) ∙ c .before .before .before .before .before .enter-in .ensures),
+      entering-more (at₂ .before .before .loop .inv .2) (at₂ .before .loop-test .taken) _ _ _ (pair-read (at₂ .get-pair .ensures) (at .before .before .before .before .pair .given .1)) _ _ _
+          (ap (roomOf (inColumns (at₂ .before .before .loop .authors) (at₂ .before .before .loop .numbers) (at₂ .before .before .loop .count)) (at .enter-in .last .0) (at .enter-in .last .1 .0)) (sym (c .before .room .given .1)) ∙ at .enter-in .ensures),
     )
 
 returns-4 : tie.Need-returns-4 Inv-loop μ-loop
 returns-4 c =
-    let at = c .before in
-    counted _ _ _ (value-read (at .before .before .before .before .count-within .ensures) (at .before .before .told .given .1)) (entered-all (at .loop .inv .2) (c .loop-test .left))
+    counted _ _ _ (value-read (c .before .before .before .before .before .count-within .ensures) (c .before .before .before .told .given .1)) (entered-all (c .before .loop .inv .2) (c .loop-test .left))
 
 pub get-clock-spec : {M : Type 1} → statement M
 get-clock-spec =

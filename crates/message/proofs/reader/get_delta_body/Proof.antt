@@ -40,13 +40,17 @@ no-body-requires-2 : tie.Need-no-body-requires-2
 no-body-requires-2 c κs = search needs
 
 returns-2 : tie.Need-returns-2
-returns-2 c = c .no-body2 .ensures ∙ delta-no-rows _ _ (value-read (c .before .before .before .before .before .before .before .before .count-within .ensures) (c .before .before .before .before .before .before .told .given .1)) _ (c .before .before .before .before .check-rows .ensures) (c .before .before .enum-told2 .given .1) (c .before .fault-of .ensures)
+returns-2 c =
+    let at = c .before .before .before .before .before .before in
+    c .no-body2 .ensures ∙ delta-no-rows _ _ (value-read (at .before .before .count-within .ensures) (at .told .given .1)) _ (c .before .before .before .before .check-rows .ensures) (c .before .before .enum-told2 .given .1) (c .before .fault-of .ensures)
 
 plain-body-requires : tie.Need-plain-body-requires
 plain-body-requires c κs = search needs
 
 returns-3 : tie.Need-returns-3
-returns-3 c = c .plain-body .ensures ∙ delta-rows _ _ (value-read (c .before .before .before .before .before .before .before .before .count-within .ensures) (c .before .before .before .before .before .before .told .given .1)) _ (c .before .before .before .before .check-rows .ensures) (c .before .before .reading .given .1)
+returns-3 c =
+    let at = c .before .before .before .before .before .before in
+    c .plain-body .ensures ∙ delta-rows _ _ (value-read (at .before .before .count-within .ensures) (at .told .given .1)) _ (c .before .before .before .before .check-rows .ensures) (c .before .before .reading .given .1)
 
 pub get-delta-body-spec : {M : Type 1} → statement M
 get-delta-body-spec =

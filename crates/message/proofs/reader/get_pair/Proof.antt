@@ -36,11 +36,15 @@ number-fault-requires-2 c κs = search needs
 
 returns-2 : tie.Need-returns-2
 unfolding getPair
-returns-2 c = on _ (value-read (c .before .before .before .before .before .before .before .get-varint .ensures) (c .before .before .before .before .before .first .given .1)) (off _ (number-refused (c .before .before .before .get-varint2 .ensures) (c .before .enum-told2 .given .1) (c .number-fault2 .ensures)))
+returns-2 c =
+    let at = c .before .before .before .before .before in
+    on _ (value-read (at .before .before .get-varint .ensures) (at .first .given .1)) (off _ (number-refused (c .before .before .before .get-varint2 .ensures) (c .before .enum-told2 .given .1) (c .number-fault2 .ensures)))
 
 returns-3 : tie.Need-returns-3
 unfolding getPair
-returns-3 c = on _ (value-read (c .before .before .before .before .before .before .before .get-varint .ensures) (c .before .before .before .before .before .first .given .1)) (on _ (value-read (c .before .before .before .get-varint2 .ensures) (c .before .second .given .1)) refl)
+returns-3 c =
+    let at = c .before .before .before .before .before in
+    on _ (value-read (at .before .before .get-varint .ensures) (at .first .given .1)) (on _ (value-read (c .before .before .before .get-varint2 .ensures) (c .before .second .given .1)) refl)
 
 pub get-pair-spec : {M : Type 1} → statement M
 get-pair-spec =

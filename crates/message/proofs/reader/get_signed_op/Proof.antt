@@ -48,8 +48,9 @@ no-signed-op-requires-2 c κs = search needs
 returns-2 : tie.Need-returns-2
 unfolding getSigned
 returns-2 c =
+    let at = c .before .before .before .before .before .before in
     let e = c .no-signed-op2 .ensures in
-    (no-row _ _ _ e (on _ (head-read (c .before .before .before .before .before .before .before .before .get-head .ensures) (c .before .before .before .before .before .before .head .given .1)) (off _ (clock-refused _ _ _ (c .before .before .before .before .get-clock .ensures) (c .before .before .enum-told2 .given .1) (c .before .fault-of .ensures)))), no-fits _ _ e)
+    (no-row _ _ _ e (on _ (head-read (at .before .before .get-head .ensures) (at .head .given .1)) (off _ (clock-refused _ _ _ (c .before .before .before .before .get-clock .ensures) (c .before .before .enum-told2 .given .1) (c .before .fault-of .ensures)))), no-fits _ _ e)
 
 bytes-within-requires : tie.Need-bytes-within-requires
 bytes-within-requires c κs = search needs
@@ -69,8 +70,10 @@ no-signed-op-requires-3 c κs = search needs
 returns-3 : tie.Need-returns-3
 unfolding getSigned
 returns-3 c =
+    let at = c .before .before .before .before .before .before in
+    let at₂ = at .before .before .before .before .before .before in
     let e = c .no-signed-op3 .ensures in
-    (no-row _ _ _ e (on _ (head-read (c .before .before .before .before .before .before .before .before .before .before .before .before .get-head .ensures) (c .before .before .before .before .before .before .before .before .before .before .head .given .1)) (on _ ((clock-read _ _ _ (c .before .before .before .before .before .before .before .before .get-clock .ensures) (c .before .before .before .before .before .before .reading .given .1)) .is) (off _ (part-refused (c .before .before .before .before .bytes-within .ensures) (c .before .before .enum-told3 .given .1) ∙ ap bad (sym (c .before .part-fault .ensures)))))), no-fits _ _ e)
+    (no-row _ _ _ e (on _ (head-read (at₂ .get-head .ensures) (at .before .before .before .before .head .given .1)) (on _ ((clock-read _ _ _ (at .before .before .get-clock .ensures) (at .reading .given .1)) .is) (off _ (part-refused (c .before .before .before .before .bytes-within .ensures) (c .before .before .enum-told3 .given .1) ∙ ap bad (sym (c .before .part-fault .ensures)))))), no-fits _ _ e)
 
 bytes-within-requires-2 : tie.Need-bytes-within-requires-2
 bytes-within-requires-2 c κs = search needs
@@ -90,20 +93,27 @@ no-signed-op-requires-4 c κs = search needs
 returns-4 : tie.Need-returns-4
 unfolding getSigned
 returns-4 c =
+    let at = c .before .before .before .before .before .before in
+    let at₂ = at .before .before .before .before .before .before in
     let e = c .no-signed-op4 .ensures in
-    (no-row _ _ _ e (on _ (head-read (c .before .before .before .before .before .before .before .before .before .before .before .before .before .before .before .before .get-head .ensures) (c .before .before .before .before .before .before .before .before .before .before .before .before .before .before .head .given .1)) (on _ ((clock-read _ _ _ (c .before .before .before .before .before .before .before .before .before .before .before .before .get-clock .ensures) (c .before .before .before .before .before .before .before .before .before .before .reading .given .1)) .is) (on _ (part-read (c .before .before .before .before .before .before .before .before .bytes-within .ensures) (c .before .before .before .before .before .before .payload .given .1)) (off _ (part-refused (c .before .before .before .before .bytes-within2 .ensures) (c .before .before .enum-told4 .given .1) ∙ ap bad (sym (c .before .part-fault2 .ensures))))))), no-fits _ _ e)
+    (no-row _ _ _ e (on _ (head-read (at₂ .before .before .before .before .get-head .ensures) (at₂ .before .before .head .given .1)) (on _ ((clock-read _ _ _ (at₂ .get-clock .ensures) (at .before .before .before .before .reading .given .1)) .is) (on _ (part-read (at .before .before .bytes-within .ensures) (at .payload .given .1)) (off _ (part-refused (c .before .before .before .before .bytes-within2 .ensures) (c .before .before .enum-told4 .given .1) ∙ ap bad (sym (c .before .part-fault2 .ensures))))))), no-fits _ _ e)
 
 deps-of-requires : tie.Need-deps-of-requires
-deps-of-requires c κs = few-deps _ _ (clock-read _ _ _ (c .before .before .before .before .before .before .before .before .before .before .before .before .get-clock .ensures) (c .before .before .before .before .before .before .before .before .before .before .reading .given .1))
+deps-of-requires c κs =
+    let at = c .before .before .before .before .before .before .before .before .before .before in
+    few-deps _ _ (clock-read _ _ _ (at .before .before .get-clock .ensures) (at .reading .given .1))
 
 returns-5 : tie.Need-returns-5
 unfolding getSigned
 returns-5 c =
-    let clock = (clock-read _ _ _ (c .before .before .before .before .before .before .before .before .before .before .before .before .before .get-clock .ensures) (c .before .before .before .before .before .before .before .before .before .before .before .reading .given .1)) in
-    let payload = part-read (c .before .before .before .before .before .before .before .before .before .bytes-within .ensures) (c .before .before .before .before .before .before .before .payload .given .1) in
-    let signature = part-read (c .before .before .before .before .before .bytes-within2 .ensures) (c .before .before .before .signature .given .1) in
+    let at = c .before .before .before .before .before in
+    let at₂ = at .before .before .before .before .before .before in
+    let at₃ = at₂ .before .before .before .before .before .before in
+    let clock = (clock-read _ _ _ (at₂ .before .before .get-clock .ensures) (at₂ .reading .given .1)) in
+    let payload = part-read (at .before .before .before .before .bytes-within .ensures) (at .before .before .payload .given .1) in
+    let signature = part-read (at .bytes-within2 .ensures) (c .before .before .before .signature .given .1) in
     let deps = c .deps-of .ensures in (
-      on _ (head-read (c .before .before .before .before .before .before .before .before .before .before .before .before .before .before .before .before .before .get-head .ensures) (c .before .before .before .before .before .before .before .before .before .before .before .before .before .before .before .head .given .1)) (on _ (clock .is) (on _ payload (on _ signature (row-is _ _ _ _ _ _ _ _ (deps .0) (clock .clock))))),
+      on _ (head-read (at₃ .get-head .ensures) (at₂ .before .before .before .before .head .given .1)) (on _ (clock .is) (on _ payload (on _ signature (row-is _ _ _ _ _ _ _ _ (deps .0) (clock .clock))))),
       λ next e. op-fits _ _ _ _ _ _ _ _ _ _ _ (omega (arith, deps .1, few-deps _ _ clock)) payload signature,
     )
 

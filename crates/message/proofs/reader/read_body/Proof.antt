@@ -49,10 +49,15 @@ no-body-requires-2 : tie.Need-no-body-requires-2
 no-body-requires-2 c κs = search needs
 
 returns-3 : tie.Need-returns-3
-returns-3 c = closed-end _ (value-read (c .before .before .before .before .before .before .before .before .before .before .get-u8 .ensures) (c .before .before .before .before .before .before .before .before .first .given .1)) _ (c .before .before .before .before .before .before .get-body .ensures) (c .before .before .before .before .reading .given .1) (finish-done _ (c .before .before .finish .ensures) (c .enum-told3 .given .1))
+returns-3 c =
+    let at = c .before .before .before .before .before .before in
+    closed-end _ (value-read (at .before .before .before .before .get-u8 .ensures) (at .before .before .first .given .1)) _ (at .get-body .ensures) (c .before .before .before .before .reading .given .1) (finish-done _ (c .before .before .finish .ensures) (c .enum-told3 .given .1))
 
 returns-4 : tie.Need-returns-4
-returns-4 c = closed-refused (c .no-body2 .result) (c .no-body2 .ensures) ∙ closed-over _ (value-read (c .before .before .before .before .before .before .before .before .before .before .before .before .get-u8 .ensures) (c .before .before .before .before .before .before .before .before .before .before .first .given .1)) _ (c .before .before .before .before .before .before .before .before .get-body .ensures) (c .before .before .before .before .before .before .reading .given .1) (finish-refused _ (c .before .before .before .before .finish .ensures) (c .before .before .end .given .1))
+returns-4 c =
+    let at = c .before .before .before .before .before .before in
+    let at₂ = at .before .before .before .before .before .before in
+    closed-refused (c .no-body2 .result) (c .no-body2 .ensures) ∙ closed-over _ (value-read (at₂ .get-u8 .ensures) (at .before .before .before .before .first .given .1)) _ (at .before .before .get-body .ensures) (at .reading .given .1) (finish-refused _ (c .before .before .before .before .finish .ensures) (c .before .before .end .given .1))
 
 pub read-body-spec : {M : Type 1} → statement M
 read-body-spec =

@@ -29,7 +29,9 @@ returns : tie.Need-returns Inv-loop μ-loop
 returns c = absurd (writing-goes-on (c .before .before .before .before .loop .inv) (c .before .before .before .loop-test .taken) _ _ (c .before .before .get-signed-op .ensures .0) (c .enum-told .given .1))
 
 write-row-requires : tie.Need-write-row-requires Inv-loop μ-loop
-write-row-requires c κs = (c .before .before .before .before .before .get-signed-op .ensures .1 _ (c .before .before .before .reading .given .1), slot-room (c .before .before .before .before .before .before .before .loop .inv) (c .before .before .before .before .before .before .loop-test .taken))
+write-row-requires c κs =
+    let at = c .before .before .before .before .before in
+    (at .get-signed-op .ensures .1 _ (c .before .before .before .reading .given .1), slot-room (at .before .before .loop .inv) (at .before .loop-test .taken))
 
 add-i : tie.Need-add-i Inv-loop μ-loop
 add-i c = search needs

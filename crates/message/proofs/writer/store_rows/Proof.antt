@@ -30,7 +30,9 @@ loop-less : tie.Need-loop-less Inv-loop μ-loop
 loop-less c = search needs
 
 loop-again : tie.Need-loop-again Inv-loop μ-loop
-loop-again c = again (c .before .before .before .before .before .before .loop .inv) (c .before .before .before .before .read-slot .result) (c .before .before .before .before .before .loop-test .taken) (c .before .before .before .before .read-slot .ensures .0) (c .before .before .store-signed-op .ensures)
+loop-again c =
+    let at = c .before .before .before .before .before in
+    again (at .before .loop .inv) (c .before .before .before .before .read-slot .result) (at .loop-test .taken) (c .before .before .before .before .read-slot .ensures .0) (c .before .before .store-signed-op .ensures)
 
 same-length : tie.Need-same-length Inv-loop μ-loop
 same-length c = search needs
