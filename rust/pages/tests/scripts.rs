@@ -327,7 +327,11 @@ fn help_needs_no_tools() {
         "last line",
         "2 a word is wrong",
     ];
-    let testing = ["CUWELFRA_DOCUMENTS", "half an hour", "`N passed, 0 failed`"];
+    let testing = [
+        "CUWELFRA_DOCUMENTS",
+        "forty minutes",
+        "`N passed, 0 failed`",
+    ];
     for (script, told) in [
         ("run", building.to_vec()),
         (
