@@ -22,14 +22,13 @@ use Rattle.row.specs.Values.{endedBy}
 use Rattle.row.specs.inside.RowParts.{faultOf}
 use Rattle.row.specs.declared.Reading.{Reading}
 use Rattle.row.specs.declared.Reading.the-variants.{Read, Refused}
-use Rattle.row.proofs.ReadSteps.{got-value}
+use Rattle.row.proofs.ReadSteps.{got-value, got-next}
 use Rattle.message.specs.Messages.{Message, hello, delta, ack, ping, pong}
 use Rattle.message.specs.Reading.{countWithin, getClock, getSigned, getRows, messageBy, getBody, readMessage, maxOps}
 use Rattle.message.specs.inside.ReaderParts.{clockBy, checked, seen, bodyBy, closedBy, answeredBy, bodyOf, closedOf}
 use Rattle.message.specs.declared.Kind.{Kind}
 use Rattle.message.specs.declared.Kind.the-variants as kind
 use Rattle.message.specs.declared.reader.BodyGot.{BodyGot}
-use Rattle.message.proofs.CountedReads.{got-next}
 
 -- what was read, by a reading
 pub ended-got : {A : Type 0} (r : Reading) (a : A) {b : A} {n : ℕ} → endedBy r a ≡ got b n → (r ≡ Read n) × (a ≡ b)

@@ -8,17 +8,14 @@ use lib.ListN.{length}
 use borrow.Author.Tests.{leb-true, le-leb, lt-leb}
 use Rattle.error.specs.declared.Refusal.{Refusal}
 use Rattle.error.specs.declared.Refusal.the-variants.{OverCapacity}
-use Rattle.error.specs.Answer.{Got, got, bad}
+use Rattle.error.specs.Answer.{got, bad}
 use Rattle.codec.specs.Reading.{getCount, Part, gotNumber}
 use Rattle.codec.specs.declared.NumberRead.{NumberRead}
 use Rattle.codec.specs.declared.NumberRead.the-variants as read
 use Rattle.codec.proofs.ReadSteps.{on, off, pass, fail, after-got, need-got, value-read, value-refused}
 use Rattle.codec.proofs.RoundTrip.{count-inside}
-use Rattle.row.proofs.ReadSteps.{got-value}
+use Rattle.row.proofs.ReadSteps.{got-value, got-next}
 use Rattle.message.specs.Reading.{countWithin, bytesWithin}
-
-pub got-next : {A : Type 0} {a b : A} {m n : ℕ} → _≡_ {A = Got A} (got a m) (got b n) → m ≡ n
-got-next e = cc
 
 -- what a count's reader answers
 module _ (most ours : ℕ) (s : List ℕ) (at : ℕ) {r : NumberRead} (e : gotNumber r ≡ getCount s at most) where

@@ -27,7 +27,7 @@ use Rattle.row.specs.Slots.{encodeSlots}
 use Rattle.row.specs.inside.RowParts.{faultOf}
 use Rattle.row.specs.declared.Reading.{Reading}
 use Rattle.row.specs.declared.Reading.the-variants.{Read, Refused}
-use Rattle.row.proofs.ReadSteps.{got-value}
+use Rattle.row.proofs.ReadSteps.{got-value, got-next}
 use Rattle.log.specs.Areas.{loggedRows}
 use Rattle.message.specs.Messages.{Message, hello, delta, ack, ping, pong}
 use Rattle.message.specs.Reading.{getRows, readMessage, readFrame}
@@ -39,7 +39,6 @@ use Rattle.message.specs.declared.MessageRead.{MessageRead}
 use Rattle.message.specs.declared.MessageRead.the-variants as read
 use Rattle.message.specs.declared.FrameRead.the-variants as frame
 use Rattle.message.specs.declared.reader.BodyGot.{BodyGot}
-use Rattle.message.proofs.CountedReads.{got-next}
 use Rattle.message.proofs.Bodies.{closed-done, DeltaParts, delta-parts, rows-count}
 
 -- ---- what the body's reader tells

@@ -5,7 +5,7 @@ use mathlib.Core.Bool.{true, _&&_}
 use mathlib.Core.List.{List, [], _∷_, _++_, append-assoc}
 use native.Mathlib.Omega.{arith}
 use lib.Dec.{leb}
-use lib.ListN.{length, take, drop, length-append}
+use lib.ListN.{length, take, drop}
 use lib.Seq.{take-at}
 use borrow.Author.Tests.{le-leb, leb-true}
 use Rattle.words.specs.Areas.{putAt}
@@ -18,14 +18,16 @@ use Rattle.clock.specs.Vector.{clockOf}
 use Rattle.clock.specs.Area.{clockAt, clockBytes}
 use Rattle.clock.proofs.ClockEntries.{entries-of, sound-of}
 use Rattle.codec.proofs.RoundTrip.{behind}
-use Rattle.row.specs.Rows.{Row, HeldRow, logged, rowOk, heldOk}
-use Rattle.row.specs.Slots.{encodeHeld, decodeHeld, encodeSlots, slotAt, slotsAt, loggedSlotOk}
-use Rattle.row.proofs.CanonicalSlot.{good-held, decode-encode, length-held, logged-encode}
-use Rattle.row.proofs.RowBounds.{row-good}
+use Rattle.row.specs.Rows.{Row, logged, rowOk}
+use Rattle.row.specs.Slots.{encodeHeld, encodeSlots, slotAt, slotsAt, loggedSlotOk}
+use Rattle.row.proofs.CanonicalSlot.{length-held, logged-encode}
+use Rattle.row.proofs.SlotTable.{slots-there}
 use Rattle.log.specs.Store.{clockOk}
-use Rattle.log.specs.Areas.{loggedRows, rowsOf}
+use Rattle.log.specs.Areas.{loggedRows}
 use Rattle.log.specs.Calls.{readClock, slotsOk}
+use Rattle.log.proofs.store.Rules.{logged-ok, rows-logged, length-logged, all-logged}
 use Rattle.log.proofs.store.HeadBytes.{length-clock, clock-there}
+use Rattle.log.proofs.logging.LogSlots.{length-rows}
 use Rattle.message.specs.Messages.{messageOk}
 use Rattle.message.specs.Calls.{lentRows}
 use Rattle.message.specs.RoundTrip.{ClockHeld, RowsHeld}
@@ -69,37 +71,21 @@ unfolding after bytes
 clock-held clock es o h = (clock-back clock es o h, clock-back clock es o h)
 
 -- ---- rows
-module _ (s : List ℕ) where
-  rows-stand : (at : ℕ) (rs : List Row) (z : List ℕ) → all rowOk rs ≡ true → drop at s ≡ encodeSlots (loggedRows rs) ++ z
-      → (slotsOk s at (length rs) ≡ true) × (rowsOf (slotsAt s at (length rs)) ≡ rs)
-  unfolding slotsOk slotsAt rowsOf loggedRows encodeSlots all
-  rows-stand at [] z h e = (refl, refl)
-  rows-stand at (r ∷ rs) z h e =
-      let ok : rowOk r ≡ true = and-left _ _ h in
-      let good : heldOk (logged r) ≡ true = good-held (logged r) (row-good r ok) in
-      let slot : List ℕ = encodeHeld (logged r) in
-      let l : length slot ≡ 704 = length-held (logged r) good in
-      let f : drop at s ≡ slot ++ (encodeSlots (loggedRows rs) ++ z) = e ∙ append-assoc slot (encodeSlots (loggedRows rs)) z in
-      let there : slotAt s at ≡ slot = ap (take 704) f ∙ take-at slot _ 704 l in
-      let k : at + length slot ≡ at + 704 = ap (λ (n : ℕ). at + n) l in
-      let g : drop (at + 704) s ≡ encodeSlots (loggedRows rs) ++ z = ap (λ (n : ℕ). drop n s) (sym k) ∙ behind s at slot _ f in
-      let rest = rows-stand (at + 704) rs z (and-right (rowOk r) (all rowOk rs) h) g in
-      let row : decodeHeld (slotAt s at) .row ≡ r = ap (λ (x : List ℕ). decodeHeld x .row) there ∙ ap (λ (x : HeldRow). x .row) (decode-encode (logged r) good) in
-      let tail : rowsOf (slotsAt s (at + 704) (length rs)) ≡ rs = rest .1 in
-      (and-both (loggedSlotOk (slotAt s at)) (slotsOk s (at + 704) (length rs)) (rw there (logged-encode r ok)) (rest .0), (λ i. row i ∷ tail i))
+slots-sound : (s : List ℕ) (at : ℕ) (rs : List Row) (z : List ℕ) → all rowOk rs ≡ true → drop at s ≡ encodeSlots (loggedRows rs) ++ z → slotsOk s at (length rs) ≡ true
+unfolding slotsOk loggedRows encodeSlots all
+slots-sound s at [] z h e = refl
+slots-sound s at (r ∷ rs) z h e =
+    let ok : rowOk r ≡ true = and-left _ _ h in
+    let slot : List ℕ = encodeHeld (logged r) in
+    let l : length slot ≡ 704 = length-held (logged r) (logged-ok r ok) in
+    let f : drop at s ≡ slot ++ (encodeSlots (loggedRows rs) ++ z) = e ∙ append-assoc slot (encodeSlots (loggedRows rs)) z in
+    let there : slotAt s at ≡ slot = ap (take 704) f ∙ take-at slot _ 704 l in
+    let k : at + length slot ≡ at + 704 = ap (λ (n : ℕ). at + n) l in
+    let g : drop (at + 704) s ≡ encodeSlots (loggedRows rs) ++ z = ap (λ (n : ℕ). drop n s) (sym k) ∙ behind s at slot _ f in
+    and-both (loggedSlotOk (slotAt s at)) (slotsOk s (at + 704) (length rs)) (rw there (logged-encode r ok))
+    (slots-sound s (at + 704) rs z (and-right (rowOk r) (all rowOk rs) h) g)
 
-slots-long : (rs : List Row) → all rowOk rs ≡ true → length (encodeSlots (loggedRows rs)) ≡ 704 * length rs
-unfolding loggedRows encodeSlots all
-slots-long [] h = refl
-slots-long (r ∷ rs) h =
-    omega (
-      arith,
-      length-append (encodeHeld (logged r)) (encodeSlots (loggedRows rs)),
-      length-held (logged r) (good-held (logged r) (row-good r (and-left _ _ h))),
-      slots-long rs (and-right (rowOk r) (all rowOk rs) h),
-    )
-
-first : (s x : List ℕ) → drop 0 (putAt s 0 x) ≡ x ++ drop (0 + length x) s
+first : (s x : List ℕ) → putAt s 0 x ≡ x ++ drop (0 + length x) s
 unfolding putAt
 first s x = refl
 
@@ -107,8 +93,12 @@ pub rows-held : RowsHeld
 unfolding lentRows messageOk
 rows-held rows rs h l =
     let ok : all rowOk rs ≡ true = and-right (leb (length rs) 64) (all rowOk rs) h in
-    let slots : List ℕ = encodeSlots (loggedRows rs) in
-    let size : length (putAt rows 0 slots) ≡ length rows = length-put rows slots 0 (omega (arith, slots-long rs ok)) in
-    let x = rows-stand (putAt rows 0 slots) 0 rs (drop (0 + length slots) rows) ok (first rows slots) in
     let few : leb (length rs) 64 ≡ true = and-left (leb (length rs) 64) (all rowOk rs) h in
-    rw (le-leb (704 * length rs) (length (putAt rows 0 slots)) (omega (arith, size)), x .0, few, x .1)
+    let slots : List ℕ = encodeSlots (loggedRows rs) in
+    let rest : List ℕ = drop (0 + length slots) rows in
+    let size : length (putAt rows 0 slots) ≡ length rows = length-put rows slots 0 (omega (arith, length-rows rs ok)) in
+    let sound : slotsOk (putAt rows 0 slots) 0 (length rs) ≡ true = slots-sound (putAt rows 0 slots) 0 rs rest ok (first rows slots) in
+    let back : slotsAt (putAt rows 0 slots) 0 (length rs) ≡ loggedRows rs =
+    ap (λ (s : List ℕ). slotsAt s 0 (length rs)) (first rows slots)
+    ∙ ap (slotsAt (slots ++ rest) 0) (sym (length-logged rs)) ∙ slots-there (loggedRows rs) rest (all-logged rs ok) in
+    rw (le-leb (704 * length rs) (length (putAt rows 0 slots)) (omega (arith, size)), sound, few, back, rows-logged rs)

@@ -18,12 +18,11 @@ use Rattle.row.specs.declared.StampedOperation.{StampedOperation}
 use Rattle.row.specs.declared.Held.{Held}
 use Rattle.row.specs.declared.Reading.{Reading}
 use Rattle.row.specs.declared.Reading.the-variants.{Read, Refused}
-use Rattle.row.proofs.ReadSteps.{got-value}
+use Rattle.row.proofs.ReadSteps.{got-value, got-next}
 use Rattle.row.proofs.Operations.{fits-length, slot-put}
 use Rattle.log.specs.Areas.{loggedRows}
 use Rattle.message.specs.Reading.{getSigned, getRows}
 use Rattle.message.specs.inside.ReaderParts.{checked, Readable, rowsIn}
-use Rattle.message.proofs.CountedReads.{got-next}
 
 -- ---- tested
 kept : (row : Row) (g : Got (List Row)) → checked (after g (λ rows next. got (row ∷ rows) next)) ≡ checked g

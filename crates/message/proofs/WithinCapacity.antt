@@ -6,31 +6,29 @@ use mathlib.Core.Logic.{inl, inr}
 use mathlib.Core.List.{List, [], _∷_}
 use native.Mathlib.Omega.{arith}
 use lib.Dec.{ltb, eqb}
-use lib.ListN.{length, drop, length-drop}
-use lib.Seq.{length-take-le}
+use lib.ListN.{length}
 use borrow.Author.Tests.{eqb-true, eqb-false, ltb-true, ltb-false, lt-ltb, le-leb}
 use Rattle.words.specs.Be.{AllBytes}
 use Rattle.words.specs.Lists.{all}
-use Rattle.words.proofs.Words.{test, bytes-part}
+use Rattle.words.proofs.Words.{test}
 use Rattle.words.proofs.Conjunction.{and-both}
 use Rattle.error.specs.declared.Refusal.the-variants.{InvalidTag}
 use Rattle.error.specs.Answer.{Got, got, bad, after}
 use Rattle.clock.specs.Entries.{get, put, enter}
-use Rattle.codec.specs.Reading.{getU8, getVarint, Part, partOf}
+use Rattle.codec.specs.Reading.{getU8, getVarint}
 use Rattle.codec.proofs.ReadSteps.{after-got}
 use Rattle.codec.proofs.RoundTrip.{varint-read}
-use Rattle.row.specs.Rows.{Row, outcomeOk, rowOk}
-use Rattle.row.specs.Reading.{Head, getHead}
+use Rattle.row.specs.Rows.{Row, rowOk}
+use Rattle.row.specs.Reading.{getHead}
 use Rattle.row.proofs.DepsPairs.{DepsOk, deps-rising, deps-words}
 use Rattle.row.proofs.DepsPairs.DepsOk.{none, more}
-use Rattle.row.proofs.ReadRows.{HeadGot, get-head-got}
+use Rattle.row.proofs.ReadRows.{get-head-got, row-built}
 use Rattle.row.proofs.ReadSteps.{got-value}
-use Rattle.row.proofs.RowBounds.{good-row}
 use Rattle.log.specs.Store.{clockOk}
 use Rattle.message.specs.Messages.{Message, hello, delta, ack, ping, pong, messageOk}
-use Rattle.message.specs.Reading.{countWithin, bytesWithin, getPair, getPairs, getClock, signedRow, getSigned, getRows, messageBy, getBody, readMessage, maxDeps, maxOps}
+use Rattle.message.specs.Reading.{countWithin, bytesWithin, getPair, getPairs, getClock, getSigned, getRows, messageBy, getBody, readMessage, maxDeps, maxOps}
 use Rattle.message.specs.RoundTrip.{ReadWithin, ReadAgain}
-use Rattle.message.proofs.CountedReads.{PartGot, part-got, count-got}
+use Rattle.message.proofs.CountedReads.{part-got, count-got}
 use Rattle.message.proofs.ClockPairs.{clock-got}
 use Rattle.message.proofs.Bodies.{closed-done, rows-count}
 use Rattle.message.proofs.RoundTrip.{message-back}
@@ -84,33 +82,6 @@ clock-ok s at es next e =
 
 -- ---- rows
 module _ (s : List ℕ) (bs : AllBytes s) where
-  part-length : {ours : ℕ} {p : Part} → PartGot ours s p → length (partOf s p) ≡ p .len
-  unfolding partOf
-  part-length {p = p} g = length-take-le (p .len) (drop (p .start) s) (omega (arith, g .inside, length-drop (p .start) s))
-
-  part-bytes : (p : Part) → AllBytes (partOf s p)
-  unfolding partOf
-  part-bytes p = bytes-part s (p .start) (p .len) bs
-
-  good : (h : Head) (ds : List (ℕ × ℕ)) (p g : Part) (at n : ℕ) → HeadGot s at h n → DepsOk 0 ds → length ds ≤ 16 → PartGot 256 s p → PartGot 64 s g
-      → rowOk (signedRow s h ds p g) ≡ true
-  unfolding outcomeOk
-  good h ds p g at n x o f y z =
-      good-row _
-      (record {
-        few = record { deps = f; payload = rw (part-length y) (y .few); signature = rw (part-length z) (z .few) };
-        wall = omega (arith, x .wall);
-        counter = omega (arith, x .counter);
-        stamper = omega (arith, x .stamper);
-        author = omega (arith, x .author);
-        seq = omega (arith, x .seq);
-        deps = o;
-        payload = part-bytes p;
-        signature = part-bytes g;
-        arrival = omega arith;
-        outcome = refl;
-      })
-
   row-ok : (at : ℕ) (r : Row) (next : ℕ) → getSigned s at ≡ got r next → rowOk r ≡ true
   unfolding getSigned
   row-ok at r next e =
@@ -118,9 +89,11 @@ module _ (s : List ℕ) (bs : AllBytes s) where
       let b = after-got (getClock 16 s (a .1)) _ (a .3) in
       let c = after-got (bytesWithin 1048576 256 s (b .1)) _ (b .3) in
       let d = after-got (bytesWithin 1024 64 s (c .1)) _ (c .3) in
+      let p = part-got 1048576 256 s (b .1) (c .0) (c .1) (c .2) in
+      let g = part-got 1024 64 s (c .1) (d .0) (d .1) (d .2) in
       subst (λ (x : Row). rowOk x ≡ true) (got-value (d .3))
-      (good (a .0) (b .0) (c .0) (d .0) at (a .1) (get-head-got s at (a .0) (a .1) (a .2)) (clock-words 16 s (a .1) (b .0) (b .1) (b .2))
-      (clock-got 16 s (a .1) (b .0) (b .1) (b .2) .few) (part-got 1048576 256 s (b .1) (c .0) (c .1) (c .2)) (part-got 1024 64 s (c .1) (d .0) (d .1) (d .2)))
+      (row-built s bs (a .0) (b .0) (c .0) (d .0) (get-head-got s at (a .0) (a .1) (a .2)) (clock-words 16 s (a .1) (b .0) (b .1) (b .2))
+      (clock-got 16 s (a .1) (b .0) (b .1) (b .2) .few) (p .few) (p .inside) (g .few) (g .inside))
 
   rows-ok : (n at : ℕ) (rs : List Row) (next : ℕ) → getRows s n at ≡ got rs next → all rowOk rs ≡ true
   unfolding getRows all

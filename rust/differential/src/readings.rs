@@ -116,11 +116,7 @@ impl Readings {
     /// bodies can have.
     pub fn finish(&self, suite: &str, fields: &[Field]) -> Check {
         let mut lacking = Vec::new();
-        let read: Vec<String> = TAGS
-            .iter()
-            .zip(self.accepted)
-            .map(|(tag, count)| counted(tag, count, &mut lacking))
-            .collect();
+        let read = self.read(&mut lacking);
         let met: Vec<String> = MET
             .iter()
             .zip(self.met)
@@ -128,7 +124,7 @@ impl Readings {
             .collect();
         note(&format!(
             "{suite}: read {}; with {}; Deltas of no row {}, of {} rows at most",
-            read.join(", "),
+            read,
             met.join(", "),
             self.emptiest,
             self.fullest
@@ -136,11 +132,8 @@ impl Readings {
         if self.emptiest == 0 || self.fullest < 64 {
             lacking.push("a Delta of no row or of 64".into());
         }
-        let by_field: Vec<String> = fields
-            .iter()
-            .map(|field| self.refused_at(*field, &mut lacking))
-            .collect();
-        note(&format!("{suite}: refused at {}", by_field.join("; ")));
+        let refused = self.refused(fields, &mut lacking);
+        note(&format!("{suite}: refused at {refused}"));
         let bodies: Vec<Field> = fields
             .iter()
             .copied()
@@ -171,21 +164,29 @@ impl Readings {
     /// Prints how often messages were read and these fields refused. Requires each of them.
     pub fn finish_areas(&self, suite: &str, fields: &[Field]) -> Check {
         let mut lacking = Vec::new();
+        let read = self.read(&mut lacking);
+        let refused = self.refused(fields, &mut lacking);
+        note(&format!("{suite}: read {read}; refused at {refused}"));
+        met_all(suite, &lacking)
+    }
+
+    /// How often each message was read.
+    fn read(&self, lacking: &mut Vec<String>) -> String {
         let read: Vec<String> = TAGS
             .iter()
             .zip(self.accepted)
-            .map(|(tag, count)| counted(tag, count, &mut lacking))
+            .map(|(tag, count)| counted(tag, count, lacking))
             .collect();
-        let by_field: Vec<String> = fields
+        read.join(", ")
+    }
+
+    /// How often these fields were refused, by number.
+    fn refused(&self, fields: &[Field], lacking: &mut Vec<String>) -> String {
+        let refused: Vec<String> = fields
             .iter()
-            .map(|field| self.refused_at(*field, &mut lacking))
+            .map(|field| self.refused_at(*field, lacking))
             .collect();
-        note(&format!(
-            "{suite}: read {}; refused at {}",
-            read.join(", "),
-            by_field.join("; ")
-        ));
-        met_all(suite, &lacking)
+        refused.join("; ")
     }
 
     fn refused_at(&self, field: Field, lacking: &mut Vec<String>) -> String {

@@ -44,6 +44,18 @@ pub fn agree<T: PartialEq + Debug>(
     ))
 }
 
+/// Hands on the bytes with every one of them in turn replaced by every other.
+pub fn each_replaced(mut bytes: Vec<u8>, mut check: impl FnMut(&[u8]) -> Check) -> Check {
+    for i in 0..bytes.len() {
+        for flip in 1..=255 {
+            bytes[i] ^= flip;
+            check(&bytes)?;
+            bytes[i] ^= flip;
+        }
+    }
+    Ok(())
+}
+
 /// A refusal that carries no values.
 pub fn refused(number: u64) -> Told {
     Told {

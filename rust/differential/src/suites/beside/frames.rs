@@ -15,7 +15,7 @@ use crate::port::messages::{slots_asked, wrapped_message, Lent};
 use crate::port::rows::SLOT;
 use crate::readings::Readings;
 use crate::rng::Rng;
-use crate::support::{agree, note, Check, Outcome};
+use crate::support::{agree, each_replaced, note, Check, Outcome};
 use crate::world::messages::{body, delta, frame, largest, message, sizes};
 
 const STRUCTURED: usize = 1_500_000;
@@ -43,7 +43,7 @@ pub fn run(rng: &mut Rng) -> Outcome {
         body.truncate(60);
         let sig = rng.below(6);
         let frame = whole(rng, &body, sig);
-        beside.replaced(frame)?;
+        each_replaced(frame, |frame| beside.read(frame, false))?;
     }
     for sig in [1_023, 1_024, 1_025, 5_000] {
         for _ in 0..50 {
@@ -182,18 +182,6 @@ impl Beside {
         let mut body = body.to_vec();
         body.push(rng.byte());
         self.read(&whole(rng, &body, sig), true)
-    }
-
-    /// Every byte in turn replaced by every other.
-    fn replaced(&mut self, mut frame: Vec<u8>) -> Check {
-        for i in 0..frame.len() {
-            for flip in 1..=255 {
-                frame[i] ^= flip;
-                self.read(&frame, false)?;
-                frame[i] ^= flip;
-            }
-        }
-        Ok(())
     }
 
     /// Bodies around the longest that an envelope has; their tag is none.

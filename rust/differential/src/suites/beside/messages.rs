@@ -10,7 +10,7 @@ use crate::port::messages::{slots_asked, wrapped_message, Lent};
 use crate::port::rows::SLOT;
 use crate::readings::Readings;
 use crate::rng::Rng;
-use crate::support::{agree, note, same_write, Check, Outcome};
+use crate::support::{agree, each_replaced, note, same_write, Check, Outcome};
 use crate::world::messages::{body, delta, largest, message, sizes};
 
 const STRUCTURED: usize = 2_000_000;
@@ -44,7 +44,7 @@ pub fn run(rng: &mut Rng) -> Outcome {
     };
     for _ in 0..REPLACED {
         let body = small(rng);
-        beside.replaced(body)?;
+        each_replaced(body, |body| beside.read(body, false))?;
     }
     sizes(rng, |body| beside.read(body, false))?;
     for _ in 0..WRITTEN {
@@ -191,18 +191,6 @@ impl Beside {
     fn cut_at(&mut self, body: &[u8], step: usize) -> Check {
         for len in (0..body.len()).step_by(step).chain([body.len()]) {
             self.read(&body[..len], false)?;
-        }
-        Ok(())
-    }
-
-    /// Every byte in turn replaced by every other.
-    fn replaced(&mut self, mut body: Vec<u8>) -> Check {
-        for i in 0..body.len() {
-            for flip in 1..=255 {
-                body[i] ^= flip;
-                self.read(&body, false)?;
-                body[i] ^= flip;
-            }
         }
         Ok(())
     }
