@@ -111,6 +111,7 @@ static void words(void)
     SAYS(CUWELFRA_REFUSED_TRAILING, "trailing");
     SAYS(CUWELFRA_REFUSED_OTHER_CAUSES, "other causes");
     SAYS(CUWELFRA_REFUSED_INVALID_TAG, "invalid tag");
+    SAYS(CUWELFRA_REFUSED_OVERLONG, "overlong");
     SAYS(UINT64_MAX, "unknown");
 }
 
@@ -144,11 +145,13 @@ static void varints(void)
     IS(cuwelfra_get_varint(out, sizeof out, 0).value, UINT64_MAX);
     REFUSED(cuwelfra_get_u32(out, sizeof out, 0).told, OVERFLOW, 0, 0);
 
-    /* The shortest form is written, any form is read. */
+    /* The shortest form is written and read, no other. */
     read = cuwelfra_get_varint(overlong, sizeof overlong, 0);
-    ACCEPTED(read.told);
+    REFUSED(read.told, OVERLONG, 0, 0);
     IS(read.value, 0);
-    IS(read.next, 2);
+    IS(read.next, 0);
+    REFUSED(cuwelfra_get_u32(overlong, sizeof overlong, 0).told, OVERLONG, 0, 0);
+    REFUSED(cuwelfra_get_count(overlong, sizeof overlong, 0, 9).told, OVERLONG, 0, 0);
     REFUSED(cuwelfra_get_varint(overlong, 1, 0).told, TRUNCATED, 0, 0);
 
     /* Short of room: nothing is written. */
@@ -189,6 +192,7 @@ static void envelopes(void)
     static const uint8_t body[] = {1, 2, 3};
     static const uint8_t sig[] = {0xC0, 0xC1};
     static const uint8_t wanted[] = {7, 3, 1, 2, 3, 2, 0xC0, 0xC1};
+    static const uint8_t overlong[] = {7, 0x80, 0x00, 0}; /* the length of an empty body in two bytes */
     uint8_t out[8];
     cuwelfra_envelope_read read;
 
@@ -203,6 +207,7 @@ static void envelopes(void)
     IS(read.sig_len, 2);
     IS(cuwelfra_read_envelope(out, sizeof out).sig_at, 6);
     REFUSED(cuwelfra_read_envelope(out, 7).told, TOO_LARGE, 0, 0);
+    REFUSED(cuwelfra_decode_envelope(overlong, sizeof overlong).told, OVERLONG, 0, 0);
 }
 
 /* ---- Clocks */
@@ -497,6 +502,7 @@ static void refused_batches(void)
     static const uint8_t waiting[] = {1, 0x88, 0x27, 0, 4, 4, 2, 0, 0, 0, 1, 0, 0}; /* row 2 of author 4 */
     static const uint8_t many_rows[] = {CUWELFRA_MAX_BATCH};
     static const uint8_t too_many_rows[] = {CUWELFRA_MAX_BATCH + 1};
+    static const uint8_t overlong[] = {0x80 | (CUWELFRA_MAX_BATCH + 1), 0x00}; /* the same in two bytes */
     uint8_t unverified[sizeof first_batch];
     cuwelfra_delta_told report;
 
@@ -522,12 +528,14 @@ static void refused_batches(void)
     ACCEPTED(report.told);
     IS(report.held, 1);
 
-    /* 4 for a setting or a count above its greatest; 3 for a batch that is cut short; 12 for a verdict of 0. */
+    /* 4 for a setting or a count above its greatest; 3 for a batch that is cut short or has an overlong number; 12 for a
+       verdict of 0. */
     apply_first_batch();
     before = desk;
     REFUSED(apply(too_many_held, 10000, first_batch, sizeof first_batch).told, OVER_CAPACITY, 0, 0);
     check_unchanged();
     REFUSED(apply(usual, 10000, too_many_rows, sizeof too_many_rows).told, OVER_CAPACITY, 0, 0);
+    REFUSED(apply(usual, 10000, overlong, sizeof overlong).told, UNREADABLE, 0, 0);
     REFUSED(apply(usual, 10000, many_rows, sizeof many_rows).told, UNREADABLE, 0, 0);
     REFUSED(apply(usual, 10000, first_batch, sizeof first_batch - 1).told, UNREADABLE, 0, 0);
     check_unchanged();
@@ -978,6 +986,7 @@ static void handshakes(void)
     static const uint8_t zero[] = {CUWELFRA_TAG_ACK, 1, 1, 0};                /* {1: 0} */
     static const uint8_t falling[] = {CUWELFRA_TAG_HELLO, 2, 5, 1, 3, 2};     /* {3: 2, 5: 1} */
     static const uint8_t snapshot[] = {5};
+    static const uint8_t overlong[] = {CUWELFRA_TAG_PING, 0x80, 0x00};
     static const uint8_t sig[] = {0xC0, 0xC1};
     uint8_t frame[16];
     uint8_t clock[CUWELFRA_CLOCK_BYTES];
@@ -1008,12 +1017,14 @@ static void handshakes(void)
     IS(framed.number, 0);
     STARTS(clock, copy);
 
-    /* A cut frame, and a snapshot's message: refused, and the area stays. */
+    /* A cut frame, a snapshot's message, and a nonce in more bytes than it needs: refused, and the area stays. */
     framed = cuwelfra_decode_frame(frame, 12, clock, sizeof clock, rows, sizeof rows);
     REFUSED(framed.told, TOO_LARGE, 0, 0);
     IS(framed.sender, 0);
     read = cuwelfra_decode_message(snapshot, sizeof snapshot, clock, sizeof clock, rows, sizeof rows);
     REFUSED(read.told, INVALID_TAG, 5, 0);
+    read = cuwelfra_decode_message(overlong, sizeof overlong, clock, sizeof clock, rows, sizeof rows);
+    REFUSED(read.told, OVERLONG, 0, 0);
     STARTS(clock, copy);
 
     /* An entry of 0 comes back, and authors need not rise. */

@@ -42,8 +42,8 @@ uint64_t cuwelfra_abi_4(void);
     X(1, UNSOUND_STORE, "unsound store")                                                                              \
     /* below the size that the call names */                                                                          \
     X(2, SHORT_AREA, "short area")                                                                                    \
-    /* a batch, or bytes to seal, cut short or with bytes left over, a number above its bits, authors that do not     \
-       strictly rise, closing bytes that are none */                                                                  \
+    /* a batch, or bytes to seal, cut short or with bytes left over, a number above its bits or in more bytes than    \
+       it needs, authors that do not strictly rise, closing bytes that are none */                                    \
     X(3, UNREADABLE, "unreadable")                                                                                    \
     /* a size in a batch, in a message or in what is sealed, or a setting, above its greatest */                      \
     X(4, OVER_CAPACITY, "over capacity")                                                                              \
@@ -78,7 +78,9 @@ uint64_t cuwelfra_abi_4(void);
     /* told in sealing: dependencies that are not the log's clock */                                                  \
     X(28, OTHER_CAUSES, "other causes")                                                                               \
     /* told in reading a message: its tag is none of the five */                                                      \
-    X(29, INVALID_TAG, "invalid tag")
+    X(29, INVALID_TAG, "invalid tag")                                                                                 \
+    /* told of a varint in more bytes than it needs, as 80 00 for 0; in a batch, or in bytes to seal, that is 3 */    \
+    X(30, OVERLONG, "overlong")
 
 #define CUWELFRA_NAMED(number, name, word) CUWELFRA_REFUSED_##name = number,
 /* CUWELFRA_REFUSED_UNSOUND_STORE is 1, and so on. */
@@ -294,8 +296,9 @@ typedef struct {
 } cuwelfra_prepared_told;
 
 /* ---- Bytes
-   A varint is unsigned LEB128: written in its shortest form, read in any form of at most ten bytes that fits 64 bits.
-   Positions may lie past the end, where nothing is left. */
+   A varint is unsigned LEB128 of at most ten bytes and 64 bits. The shortest form is written and read, no other: what has
+   two or more bytes and ends in a zero byte is 30, at one number after 22 and 23 and before 24. Positions may lie past
+   the end, where nothing is left. */
 
 /* How many bytes the shortest varint of v has, 1 to 10. Refuses nothing. */
 size_t cuwelfra_varint_len(uint64_t v);
@@ -307,11 +310,12 @@ cuwelfra_written cuwelfra_put_u8(uint8_t *out, size_t out_len, size_t at, uint8_
 cuwelfra_written cuwelfra_put_bytes(uint8_t *out, size_t out_len, size_t at, const uint8_t *bytes, size_t bytes_len);
 /* Reads the byte at position at of s. 22 past the end. */
 cuwelfra_number_read cuwelfra_get_u8(const uint8_t *s, size_t s_len, size_t at);
-/* Reads the varint at position at of s. 23 for more than ten bytes or 64 bits, else 22 where its end is missing. */
+/* Reads the varint at position at of s. 23 for more than ten bytes or 64 bits, else 22 where its end is missing; then 30
+   for a form that is not the shortest. */
 cuwelfra_number_read cuwelfra_get_varint(const uint8_t *s, size_t s_len, size_t at);
-/* The same; 23 also for more than 32 bits. */
+/* The same; 23 also for more than 32 bits, before 30. */
 cuwelfra_number_read cuwelfra_get_u32(const uint8_t *s, size_t s_len, size_t at);
-/* Reads a varint; 22, 23, then 24 where it is above max or above the number of bytes behind it. */
+/* Reads a varint; 22, 23, 30, then 24 where it is above max or above the number of bytes behind it. */
 cuwelfra_number_read cuwelfra_get_count(const uint8_t *s, size_t s_len, size_t at, uint64_t max);
 /* Reads a length, as cuwelfra_get_count does and with its refusals, and passes as many bytes. */
 cuwelfra_part_read cuwelfra_get_bytes(const uint8_t *s, size_t s_len, size_t at, uint64_t max);
@@ -323,8 +327,8 @@ uint64_t cuwelfra_remaining(const uint8_t *s, size_t s_len, size_t at);
    room; no limit for body and signature. */
 cuwelfra_written cuwelfra_encode_envelope(uint8_t *out, size_t out_len, uint64_t sender, const uint8_t *body,
                                           size_t body_len, const uint8_t *sig, size_t sig_len);
-/* Reads the envelope that fills all of s. 22 and 23; 24 where a length is above the bytes behind it, the body above
-   16,777,216 bytes or the signature above 1,024; 25 where bytes remain. */
+/* Reads the envelope that fills all of s. By the first fault: 22, 23 and 30 for sender and lengths; 24 where a length is
+   above the bytes behind it, the body above 16,777,216 bytes or the signature above 1,024; 25 where bytes remain. */
 cuwelfra_envelope_read cuwelfra_decode_envelope(const uint8_t *s, size_t s_len);
 /* The same answer, read by one reader. */
 cuwelfra_envelope_read cuwelfra_read_envelope(const uint8_t *s, size_t s_len);
@@ -542,14 +546,14 @@ cuwelfra_written cuwelfra_encode_delta(uint8_t *out, size_t out_len, const uint8
 /* Reads the message that fills all of body. Writes the clock of a Hello or Ack into the clock area, the rows of a Delta
    into as many slots of rows, logged rows' ones, and nothing for a Ping or Pong; later bytes stay.
    Authors need not rise: of one that comes twice the greatest number counts. An entry of 0 is kept.
-   2 for clock; 22 for an empty body; 29; then by the first fault, at each number 22, 23, for a count or length also 24
-   where it is above 4,096 pairs or rows, 1,048,576 payload bytes, 1,024 signature bytes or the bytes of the body behind
-   it, then 4 where it is above 32 pairs of a clock, 64 rows, 16 dependencies, 256 payload bytes or 64 signature bytes; 25
-   where bytes remain; 2 for rows below 704 bytes for each row. */
+   2 for clock; 22 for an empty body; 29; then by the first fault, at each number 22, 23, 30, for a count or length also
+   24 where it is above 4,096 pairs or rows, 1,048,576 payload bytes, 1,024 signature bytes or the bytes of the body
+   behind it, then 4 where it is above 32 pairs of a clock, 64 rows, 16 dependencies, 256 payload bytes or 64 signature
+   bytes; 25 where bytes remain; 2 for rows below 704 bytes for each row. */
 cuwelfra_message_told cuwelfra_decode_message(const uint8_t *body, size_t body_len, uint8_t *clock, size_t clock_len,
                                               uint8_t *rows, size_t rows_len);
 /* Reads the envelope that fills all of frame, as cuwelfra_decode_envelope does, and the message in its body, as
-   cuwelfra_decode_message does. 2 for clock; 22 to 25 of the envelope; then all of the message. */
+   cuwelfra_decode_message does. 2 for clock; 22 to 25 and 30 of the envelope; then all of the message. */
 cuwelfra_frame_told cuwelfra_decode_frame(const uint8_t *frame, size_t frame_len, uint8_t *clock, size_t clock_len,
                                           uint8_t *rows, size_t rows_len);
 

@@ -86,7 +86,7 @@ pub fn get_u8(s: &[u8], at: usize) -> NumberRead {
     lend!(cuwelfra_get_u8(read s, at))
 }
 
-/// Reads the varint at `at`.
+/// Reads the varint at `at`, in its shortest form.
 pub fn get_varint(s: &[u8], at: usize) -> NumberRead {
     lend!(cuwelfra_get_varint(read s, at))
 }

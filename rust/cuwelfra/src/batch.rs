@@ -20,7 +20,8 @@ pub struct BatchRow {
     pub outcome: Outcome,
 }
 
-/// A batch in document 01's layout, row after row.
+/// A batch in document 01's layout, row after row, each number in its shortest form: batches of equal rows, verdicts and
+/// outcomes are equal bytes.
 ///
 /// ```
 /// use cuwelfra::{ActorId, ApplyError, Batch, Refusal, Row, Timestamp};
@@ -135,13 +136,11 @@ impl AsRef<[u8]> for Batch {
 impl TryFrom<&[u8]> for Batch {
     type Error = Refusal;
 
-    /// Reads a batch's bytes and writes them anew, each number in its shortest form; 3 and 4 as [`Batch::read`].
+    /// Takes a batch's bytes over where they read; 3 and 4 as [`Batch::read`]. They are then the bytes that pushing its
+    /// rows makes.
     fn try_from(bytes: &[u8]) -> Result<Self, Refusal> {
-        let mut batch = Self::new();
-        for row in Self::read(bytes)? {
-            batch.push(&row.row, row.verified, row.outcome)?;
-        }
-        Ok(batch)
+        Self::read(bytes)?;
+        Ok(Self(bytes.to_vec()))
     }
 }
 
@@ -189,15 +188,25 @@ mod tests {
     }
 
     #[test]
-    fn bytes_are_taken_over_in_their_shortest_form() -> Result<(), Refusal> {
+    fn bytes_are_taken_over_as_they_are() -> Result<(), Refusal> {
         let batch = batch(&rows())?;
-        assert_eq!(Batch::try_from(batch.as_ref()), Ok(batch.clone()));
-        // The count 5 in two bytes: the same batch, to which a row can be pushed.
-        let longer = [&[0x85, 0], &batch.bytes()[1..]].concat();
-        let mut taken = Batch::try_from(&longer[..])?;
+        let mut taken = Batch::try_from(batch.as_ref())?;
         assert_eq!(taken, batch);
         taken.push(&rows()[0].row, true, Ok(()))?;
         assert_eq!(Batch::read(taken.as_ref()).map(|rows| rows.len()), Ok(6));
+        Ok(())
+    }
+
+    /// The count 5, the first wall time 100 and its counter 1, each in two bytes.
+    #[test]
+    fn a_batch_has_one_spelling() -> Result<(), Refusal> {
+        let bytes = batch(&rows())?.into_bytes();
+        assert_eq!(bytes[..3], [5, 100, 1]);
+        for at in 0..3 {
+            let longer = [&bytes[..at], &[bytes[at] | 0x80, 0], &bytes[at + 1..]].concat();
+            assert_eq!(Batch::read(&longer), Err(Refusal::Unreadable));
+            assert_eq!(Batch::try_from(&longer[..]), Err(Refusal::Unreadable));
+        }
         Ok(())
     }
 
@@ -221,8 +230,12 @@ mod tests {
         let unreadable = called
             .err()
             .filter(|refusal| (3..=4).contains(&refusal.number()));
-        assert_eq!(Batch::read(bytes).err(), unreadable, "{bytes:02x?}");
+        let read = Batch::read(bytes);
+        assert_eq!(read.as_ref().err(), unreadable.as_ref(), "{bytes:02x?}");
         assert_eq!(Batch::try_from(bytes).err(), unreadable, "{bytes:02x?}");
+        if let Ok(rows) = read {
+            assert_eq!(batch(&rows)?.bytes(), bytes, "its rows, pushed");
+        }
         Ok(())
     }
 
@@ -240,8 +253,8 @@ mod tests {
         for tail in [&[0][..], &[0x80, 0]] {
             agrees_with_the_call(&[&bytes[..], tail].concat())?;
         }
-        // Counts: overlong, above 64 and above 64 bits.
-        let counts: [&[u8]; 4] = [&[0x85, 0], &[65], &[0xff, 1], &[0xff; 11]];
+        // Counts: overlong, 65 rows too, above 64 and above 64 bits.
+        let counts: [&[u8]; 5] = [&[0x85, 0], &[0xc1, 0], &[65], &[0xff, 1], &[0xff; 11]];
         for count in counts {
             agrees_with_the_call(&[count, &bytes[1..]].concat())?;
         }

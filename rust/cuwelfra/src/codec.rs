@@ -15,7 +15,7 @@ pub fn varint_len(v: u64) -> usize {
     sys::varint_len(v)
 }
 
-/// Reads from a slice. A refused read leaves the position.
+/// Reads from a slice. A refused read leaves the position. A varint is read in its shortest form alone.
 ///
 /// ```
 /// use cuwelfra::{Reader, Refusal};
@@ -26,6 +26,9 @@ pub fn varint_len(v: u64) -> usize {
 /// assert_eq!(reader.varint(), Err(Refusal::Truncated));
 /// assert_eq!((reader.position(), reader.remaining()), (6, 1));
 /// assert_eq!(reader.finish(), Err(Refusal::TrailingBytes));
+///
+/// // 300 in a byte more than it needs.
+/// assert_eq!(Reader::new(&[0xac, 0x82, 0]).varint(), Err(Refusal::Overlong));
 /// ```
 #[derive(Clone, Copy, Debug)]
 pub struct Reader<'a> {
@@ -55,25 +58,25 @@ impl<'a> Reader<'a> {
         self.number(read)
     }
 
-    /// Reads a varint; 22, 23.
+    /// Reads a varint; 22, 23, 30.
     pub fn varint(&mut self) -> Result<u64, Refusal> {
         let read = sys::get_varint(self.bytes, self.at);
         self.number(read)
     }
 
-    /// Reads a varint of at most 32 bits; 22, 23.
+    /// Reads a varint of at most 32 bits; 22, 23, 30.
     pub fn u32(&mut self) -> Result<u32, Refusal> {
         let read = sys::get_u32(self.bytes, self.at);
         self.number(read)
     }
 
-    /// Reads a count of at most `max` and at most the bytes left after it; 22 to 24.
+    /// Reads a count of at most `max` and at most the bytes left after it; 22, 23, 30, 24.
     pub fn count(&mut self, max: u64) -> Result<usize, Refusal> {
         let read = sys::get_count(self.bytes, self.at, max);
         self.number(read)
     }
 
-    /// Reads bytes, length first, at most `max`; 22 to 24.
+    /// Reads bytes, length first, at most `max`; 22, 23, 30, 24.
     pub fn bytes(&mut self, max: u64) -> Result<&'a [u8], Refusal> {
         let read = sys::get_bytes(self.bytes, self.at, max);
         Refusal::check(read.told)?;
@@ -186,7 +189,7 @@ impl<'a> Envelope<'a> {
         next(written, out.len())
     }
 
-    /// Reads the envelope that fills all of `frame`; 22 to 25. Body and signature are parts of it.
+    /// Reads the envelope that fills all of `frame`; 22 to 25 and 30. Body and signature are parts of it.
     pub fn decode(frame: &'a [u8]) -> Result<Self, Refusal> {
         let read = sys::decode_envelope(frame);
         Refusal::check(read.told)?;
@@ -226,6 +229,40 @@ mod tests {
         assert_eq!(read::<u32>(1 << 32, 3), (Err(MISFIT), 0));
         assert_eq!(read(u64::MAX, 3), (Ok(u64::MAX), 3));
         assert_eq!(read::<u64>(7, 4), (Err(MISFIT), 0));
+    }
+
+    /// A read that is refused, and where the reader stands then.
+    fn refused<'a>(
+        bytes: &'a [u8],
+        read: impl FnOnce(&mut Reader<'a>) -> Option<Refusal>,
+    ) -> (Option<u64>, usize) {
+        let mut reader = Reader::new(bytes);
+        assert_eq!(reader.u8(), Ok(9));
+        let number = read(&mut reader).map(Refusal::number);
+        assert_eq!(reader.remaining(), bytes.len() - reader.position());
+        (number, reader.position())
+    }
+
+    #[test]
+    fn a_refused_read_leaves_the_reader() {
+        // Cut short, above 64 bits, overlong, above the limit: the number of each read's refusal.
+        let wide = [&[9][..], &[0x80; 9], &[2]].concat();
+        let numbers: [(&[u8], [u64; 4]); 5] = [
+            (&[9, 0x81], [22; 4]),
+            (&wide, [23; 4]),
+            (&[9, 0x81, 0, 9], [30; 4]),
+            (&[9, 0x80, 0x80, 0x80, 0x80, 0x90, 0], [30, 23, 30, 30]),
+            (&[9, 0x85, 0], [30; 4]),
+        ];
+        for (bytes, [varint, u32, count, part]) in numbers {
+            let at_one = |number| (Some(number), 1);
+            assert_eq!(refused(bytes, |r| r.varint().err()), at_one(varint));
+            assert_eq!(refused(bytes, |r| r.u32().err()), at_one(u32));
+            assert_eq!(refused(bytes, |r| r.count(4).err()), at_one(count));
+            assert_eq!(refused(bytes, |r| r.bytes(4).err()), at_one(part));
+        }
+        assert_eq!(refused(&[9, 5], |r| r.count(4).err()), (Some(24), 1));
+        assert_eq!(refused(&[9, 5], |r| r.bytes(4).err()), (Some(24), 1));
     }
 
     #[test]

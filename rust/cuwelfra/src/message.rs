@@ -111,11 +111,11 @@ impl Message {
         }
     }
 
-    /// Reads the message that fills all of `body`; 4, 22 to 25, 29.
+    /// Reads the message that fills all of `body`; 4, 22 to 25, 29, 30.
     ///
     /// An entry of 0 is kept, in a clock and among dependencies. Authors need not rise: they come back sorted, and of one
-    /// that comes twice the greatest number counts. A body that was spelled otherwise than [`Message::encode`] does it is
-    /// read too: a row's signature covers the spelling of [`Row::signing_bytes`].
+    /// that comes twice the greatest number counts. Such a body is not what [`Message::encode`] makes of the message, and a
+    /// row's signature covers the sorted dependencies of [`Row::signing_bytes`]. Every number is in its shortest form.
     pub fn decode(body: &[u8]) -> Result<Self, Refusal> {
         let mut areas = Areas::of(body.len());
         let told = sys::decode_message(body, &mut areas.clock, &mut areas.rows);
@@ -139,8 +139,8 @@ pub struct Frame<'a> {
 }
 
 impl<'a> Frame<'a> {
-    /// Reads the envelope that fills all of `frame` and the message that fills all of its body; 22 to 25 of the envelope,
-    /// then as [`Message::decode`]. Body and signature are parts of it.
+    /// Reads the envelope that fills all of `frame` and the message that fills all of its body; 22 to 25 and 30 of the
+    /// envelope, then as [`Message::decode`]. Body and signature are parts of it.
     ///
     /// Whether the sender signed the body is the server's to find out, before it uses the message.
     ///
@@ -341,17 +341,14 @@ mod tests {
         Ok(())
     }
 
-    /// Authors in any order, an author twice, and overlong numbers.
     #[test]
-    fn another_spelling_is_read() {
-        let bodies: [(&[u8], Message); 4] = [
+    fn authors_in_any_order_and_twice_are_read() {
+        let bodies: [(&[u8], Message); 2] = [
             (
                 &[0, 2, 5, 1, 3, 2],
                 Message::Hello(clock(&[(3, 2), (5, 1)])),
             ),
             (&[2, 3, 5, 1, 5, 9, 5, 2], Message::Ack(clock(&[(5, 9)]))),
-            (&[3, 0x80, 0], Message::Ping(0)),
-            (&[1, 0x80, 0x80, 0], Message::Delta(vec![])),
         ];
         for (body, message) in bodies {
             assert_eq!(Message::decode(body), Ok(message), "{body:?}");
@@ -360,7 +357,7 @@ mod tests {
 
     #[test]
     fn every_refusal_of_reading() -> Result<(), Refusal> {
-        use Refusal::{OverCapacity, TooLarge, TrailingBytes, Truncated, VarintOverflow};
+        use Refusal::{OverCapacity, Overlong, TooLarge, TrailingBytes, Truncated, VarintOverflow};
         let tag = |tag| Refusal::InvalidTag { tag };
         let pairs = |count: u8, left: usize| [&[0, count][..], &vec![1; left]].concat();
         // The start of a row, up to its dependencies.
@@ -394,6 +391,17 @@ mod tests {
             (sized(&[0, 0x81, 0x02], 257), OverCapacity),
             (sized(&[0, 0, 65], 64), TooLarge),
             (sized(&[0, 0, 65], 65), OverCapacity),
+            // Overlong, before 24 and 4; a counter of 33 bits is 23 in any form.
+            (vec![3, 0x80, 0], Overlong),
+            (vec![1, 0x80, 0x80, 0], Overlong),
+            (vec![0, 0x81, 0], Overlong),
+            ([&[1, 0xc1, 0][..], &[0; 65]].concat(), Overlong),
+            (sized(&[0, 0x81, 0x82, 0], 257), Overlong),
+            (sized(&[0, 0, 0x80, 0], 0), Overlong),
+            (
+                [&[1, 1, 0][..], &[0x80, 0x80, 0x80, 0x80, 0x90, 0]].concat(),
+                VarintOverflow,
+            ),
         ];
         for (body, refusal) in bodies {
             assert_eq!(Message::decode(&body), Err(refusal), "{body:?}");

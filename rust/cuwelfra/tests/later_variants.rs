@@ -83,7 +83,7 @@ impl Dated for Refusal {
             Self::UnaskedPong | Self::Truncated | Self::VarintOverflow => Since::Now,
             Self::TooLarge | Self::TrailingBytes => Since::Now,
             Self::OperationTooLarge | Self::SequenceExhausted | Self::OtherCauses => Since::Now,
-            Self::InvalidTag { .. } => Since::Now,
+            Self::InvalidTag { .. } | Self::Overlong => Since::Now,
             Self::UnknownAnswer(_) | Self::MisfitAnswer => Since::Now,
             _ => Since::Later,
         }

@@ -4,8 +4,9 @@ use std::collections::BTreeMap;
 
 use cuwelfra_sys::{DeltaTold, Told};
 
+use crate::leb128::OVERLONG;
 use crate::port::batches::Folds;
-use crate::support::{note, Check, Outcome};
+use crate::support::{note, refused, Check, Outcome, Refusing};
 
 /// Refusals that a batch call has.
 const REFUSALS: usize = 18;
@@ -16,6 +17,8 @@ pub struct Census {
     refused: [u64; REFUSALS + 1],
     moved: [u64; 7],
     folds: [u64; 4],
+    /// Batches that 3 refuses for a number in more bytes than it needs.
+    pub overlong: u64,
     /// Rows of the desk's own, prepared and sealed or sealed as they are.
     pub own: Numbers,
 }
@@ -82,6 +85,15 @@ impl Census {
         }
     }
 
+    /// Prints how many batches an overlong number refuses, and how many calls are not. Requires both.
+    pub fn overlong_batches(&self, suite: &str) -> Check {
+        let (overlong, others) = (self.overlong, self.calls() - self.overlong);
+        note(&format!(
+            "{suite}: batches with an overlong number, refused with 3: {overlong}; calls with other batches {others}"
+        ));
+        both_met(suite, others, overlong)
+    }
+
     /// Prints the counts. Requires that calls were accepted, and that each of these refusals and moves occurred.
     pub fn finish(
         &self,
@@ -109,6 +121,53 @@ impl Census {
             return Err("a refusal or a move never occurred".into());
         }
         Ok(self.calls())
+    }
+}
+
+/// How many inputs were compared with the original, and of how many it was not asked, for a number in more bytes than it
+/// needs.
+#[derive(Default)]
+pub struct Forms {
+    compared: u64,
+    overlong: u64,
+}
+
+impl Forms {
+    /// What the port must answer: 30 for an overlong number, else what the original answers.
+    pub fn wanted<T: Refusing>(&mut self, overlong: bool, original: impl FnOnce() -> T) -> T {
+        self.note(overlong);
+        match overlong {
+            true => T::refusing(refused(OVERLONG)),
+            false => original(),
+        }
+    }
+
+    pub fn note(&mut self, overlong: bool) {
+        match overlong {
+            true => self.overlong += 1,
+            false => self.compared += 1,
+        }
+    }
+
+    /// All of them.
+    pub fn cases(&self) -> u64 {
+        self.compared + self.overlong
+    }
+
+    /// Prints both counts, and the number that refuses what is overlong. Requires both.
+    pub fn finish(&self, suite: &str, number: u64) -> Check {
+        let Self { compared, overlong } = *self;
+        note(&format!(
+            "{suite}: compared with the original {compared}; overlong, refused with {number} {overlong}"
+        ));
+        both_met(suite, compared, overlong)
+    }
+}
+
+fn both_met(suite: &str, others: u64, overlong: u64) -> Check {
+    match others > 0 && overlong > 0 {
+        true => Ok(()),
+        false => Err(format!("  {suite}: no overlong number, or nothing else")),
     }
 }
 

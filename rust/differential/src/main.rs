@@ -10,6 +10,7 @@ mod boundaries;
 mod census;
 #[cfg(oracle_present)]
 mod fuzz;
+mod leb128;
 mod model;
 #[cfg(oracle_present)]
 mod original;

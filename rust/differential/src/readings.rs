@@ -1,7 +1,8 @@
-//! How often readings of messages were accepted, by tag, and refused, by field and number, and what they met.
+//! How often readings of messages were accepted, by tag, and refused, by field and number, and what they met; overlong numbers
+//! by tag and field.
 
-use crate::model::messages::{Answer, Fault, Field, Met, Refusing};
-use crate::support::{note, Check};
+use crate::model::messages::{Answer, Fault, Field, Met, NUMBERED};
+use crate::support::{note, Check, Refusing};
 
 /// The fields and their names, in the order of the enum.
 const FIELDS: [(Field, &str); 23] = [
@@ -30,7 +31,7 @@ const FIELDS: [(Field, &str); 23] = [
     (Field::RowsArea, "rows area"),
 ];
 /// Refusals end before it.
-const NUMBERS: usize = 30;
+const NUMBERS: usize = 31;
 
 const TAGS: [&str; 5] = ["Hello", "Delta", "Ack", "Ping", "Pong"];
 
@@ -42,15 +43,13 @@ const TOO_LARGE: [&str; 3] = [
 ];
 
 /// What was met in messages that were read, in clocks and in dependencies.
-const MET: [&str; 8] = [
+const MET: [&str; 6] = [
     "authors that fall in a clock",
     "authors that repeat in a clock",
     "zero entries in a clock",
-    "overlong numbers in a clock or a nonce",
     "authors that fall in dependencies",
     "authors that repeat in dependencies",
     "zero entries in dependencies",
-    "overlong numbers in rows",
 ];
 
 #[derive(Default)]
@@ -58,7 +57,8 @@ pub struct Readings {
     accepted: [u64; 5],
     refused: [[u64; NUMBERS]; FIELDS.len()],
     too_large: [[u64; 3]; FIELDS.len()],
-    met: [u64; 8],
+    overlong: [[u64; FIELDS.len()]; TAGS.len()],
+    met: [u64; 6],
     fullest: usize,
     emptiest: u64,
 }
@@ -75,6 +75,9 @@ impl Readings {
     fn refusal(&mut self, fault: &Fault) {
         let field = fault.field as usize;
         self.refused[field][fault.told.number as usize] += 1;
+        if let (Some(tag), true) = (fault.tag, fault.is_overlong()) {
+            self.overlong[usize::from(tag)][field] += 1;
+        }
         let (Some(size), Some((limit, capacity))) = (fault.size, fault.field.limits()) else {
             return;
         };
@@ -92,12 +95,9 @@ impl Readings {
 
     fn acceptance(&mut self, met: &Met, tag: u64, number: u64) {
         self.accepted[tag as usize] += 1;
-        let at = if tag == 1 { 4 } else { 0 };
-        for (count, met) in
-            self.met[at..]
-                .iter_mut()
-                .zip([met.fell, met.repeated, met.zero, met.overlong])
-        {
+        let at = if tag == 1 { 3 } else { 0 };
+        let kinds = [met.fell, met.repeated, met.zero];
+        for (count, met) in self.met[at..].iter_mut().zip(kinds) {
             *count += u64::from(met);
         }
         if tag == 1 {
@@ -134,6 +134,8 @@ impl Readings {
         }
         let refused = self.refused(fields, &mut lacking);
         note(&format!("{suite}: refused at {refused}"));
+        let overlong = self.overlong(&mut lacking);
+        note(&format!("{suite}: overlong numbers in bodies, 30: {overlong}"));
         let bodies: Vec<Field> = fields
             .iter()
             .copied()
@@ -161,12 +163,15 @@ impl Readings {
         met_all(suite, &lacking)
     }
 
-    /// Prints how often messages were read and these fields refused. Requires each of them.
+    /// Prints how often messages were read, these fields refused and numbers overlong. Requires each of them.
     pub fn finish_areas(&self, suite: &str, fields: &[Field]) -> Check {
         let mut lacking = Vec::new();
         let read = self.read(&mut lacking);
         let refused = self.refused(fields, &mut lacking);
-        note(&format!("{suite}: read {read}; refused at {refused}"));
+        let overlong = self.overlong(&mut lacking);
+        note(&format!(
+            "{suite}: read {read}; refused at {refused}; overlong numbers in bodies, 30: {overlong}"
+        ));
         met_all(suite, &lacking)
     }
 
@@ -178,6 +183,17 @@ impl Readings {
             .map(|(tag, count)| counted(tag, count, lacking))
             .collect();
         read.join(", ")
+    }
+
+    /// How often a number of each message was overlong.
+    fn overlong(&self, lacking: &mut Vec<String>) -> String {
+        let mut overlong = Vec::new();
+        for ((tag, fields), counts) in TAGS.iter().zip(NUMBERED).zip(self.overlong) {
+            let without = fields.iter().filter(|field| counts[**field as usize] == 0);
+            lacking.extend(without.map(|field| format!("30 at the {} of {tag}", name(*field))));
+            overlong.push(format!("{tag} {}", counts.iter().sum::<u64>()));
+        }
+        overlong.join(", ")
     }
 
     /// How often these fields were refused, by number.

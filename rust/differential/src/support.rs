@@ -3,7 +3,7 @@
 use std::cell::RefCell;
 use std::fmt::Debug;
 
-use cuwelfra_sys::{Told, Written};
+use cuwelfra_sys::{EnvelopeRead, FrameTold, MessageTold, NumberRead, PartRead, Told, Written};
 
 /// The number of cases, or the first disagreement with its inputs.
 pub type Outcome = Result<u64, String>;
@@ -63,6 +63,26 @@ pub fn refused(number: u64) -> Told {
         ..Told::default()
     }
 }
+
+/// An answer that all is 0 of but the refusal.
+pub trait Refusing: Default {
+    fn refusing(told: Told) -> Self;
+}
+
+macro_rules! refusing {
+    ($($answer:ty),*) => {$(
+        impl Refusing for $answer {
+            fn refusing(told: Told) -> Self {
+                Self {
+                    told,
+                    ..Self::default()
+                }
+            }
+        }
+    )*};
+}
+
+refusing!(NumberRead, PartRead, EnvelopeRead, MessageTold, FrameTold);
 
 /// Requires that a call before the one that is looked at was accepted.
 pub fn accepted(told: Told) {

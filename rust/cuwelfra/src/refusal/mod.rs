@@ -152,10 +152,11 @@ mod tests {
                 "sequence exhausted",
                 "other causes",
                 "invalid tag",
+                "overlong",
             ]
         );
         let values = |number| Refusal::explain(number).map(|known| known.values.len());
-        for number in 1..=29 {
+        for number in 1..=30 {
             let carried = match number {
                 5..=13 | 16 | 20 => 2,
                 14 | 15 | 29 => 1,
@@ -163,20 +164,20 @@ mod tests {
             };
             assert_eq!(values(number), Some(carried), "{number}");
         }
-        assert_eq!(values(30), None);
+        assert_eq!(values(31), None);
     }
 
     #[test]
     fn what_the_documents_do_not_have_is_handed_on() {
         let told = Told {
-            number: 30,
+            number: 31,
             first: 1,
             second: 2,
         };
         let refusal = Refusal::UnknownAnswer(told);
         assert_eq!(Refusal::check(told), Err(refusal));
         assert_eq!(refusal.told(), told);
-        let text = "refusal 30, unknown answer: first value 1, second value 2";
+        let text = "refusal 31, unknown answer: first value 1, second value 2";
         assert_eq!(refusal.to_string(), text);
         assert_eq!(Refusal::check(Told::default()), Ok(()));
     }
@@ -198,6 +199,7 @@ mod tests {
     fn values_are_named() {
         let texts = [
             (Refusal::LogFull, "refusal 17, log full"),
+            (Refusal::Overlong, "refusal 30, overlong"),
             (
                 Refusal::HeldOverflow { limit: 3 },
                 "refusal 14, held overflow: limit 3",

@@ -169,9 +169,9 @@ refusals! {
         advice: "Lend an area of the size in docs/LAYOUT.md, or a larger output; more than the size is allowed.",
     }
     3 => Unreadable, "unreadable" {
-        meaning: "A batch, or the bytes of a row to seal, do not read: they are cut short, a varint is above 64 bits or a stamp's counter above 32, a \
-                  row's dependencies are not by strictly rising author, a closing byte (verdict, outcome, detail) is \
-                  none that there is, or bytes are left over.",
+        meaning: "A batch, or the bytes of a row to seal, do not read: they are cut short, a varint is above 64 bits or in \
+                  more bytes than it needs, a stamp's counter is above 32 bits, a row's dependencies are not by strictly \
+                  rising author, a closing byte (verdict, outcome, detail) is none that there is, or bytes are left over.",
         advice: "Fetch the batch again; where it comes the same, its writer has another layout. No row of it was \
                  merged. Seal the bytes that preparing gave, unchanged.",
     }
@@ -305,5 +305,11 @@ refusals! {
                   5 and 6 are a snapshot's.",
         advice: "A snapshot's message is the server's to read: decode the envelope alone. Drop any other: its sender has \
                  another layout.",
+    }
+    30 => Overlong, "overlong" {
+        meaning: "A varint is in more bytes than it needs: it has two or more, and the last is zero. A number has one \
+                  spelling, the shortest. In a batch, and in the bytes of a row to seal, this is 3.",
+        advice: "Drop the frame: more bytes cannot make it readable. Its sender has to write each number in its shortest \
+                 form, as every call here does.",
     }
 }

@@ -16,7 +16,7 @@ fn explaining() {
     let titles = all
         .lines()
         .filter(|line| line.starts_with(|first: char| first.is_ascii_digit()));
-    assert_eq!(titles.count(), 29);
+    assert_eq!(titles.count(), 30);
     assert!(all.contains(&one));
     assert!(!all.to_lowercase().contains("document"), "{all}");
     for number in (1..=20).chain(26..=28) {
@@ -31,7 +31,10 @@ fn explaining() {
     assert!(large.contains("a 17th author"), "{large}");
     let pong = folder.well("explain 21");
     assert!(pong.contains("No command meets it"), "{pong}");
-    for none in ["0", "30", "x", "+1"] {
+    let overlong = folder.well("explain 30");
+    assert!(overlong.starts_with("30, overlong\n    "), "{overlong}");
+    assert!(overlong.contains("No command meets it"), "{overlong}");
+    for none in ["0", "31", "x", "+1"] {
         let told = folder.fails(&format!("explain {none}"));
         assert_eq!(
             told,

@@ -66,7 +66,7 @@ pub fn same_clock(lent: &Lent, told: &DeltaTold) -> Result<Folds, String> {
         agree(told, &refused.told, inputs)?;
         return Ok(refused.folds);
     }
-    let rows = read_batch(&lent.batch).map_err(|number| format!("  {number}: {}", inputs()))?;
+    let rows = read_batch(&lent.batch).map_err(|fault| format!("  {fault:?}: {}", inputs()))?;
     let stamps: Vec<Stamp> = rows.iter().map(|lent| lent.row.stamp).collect();
     let (last, folds) = folded(&lent.clock, lent.time, &stamps);
     let wanted = Answer::accepted(*told, Vec::new(), last, folds);

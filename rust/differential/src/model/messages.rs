@@ -1,11 +1,12 @@
-//! Message bodies and frames by document 02's ticket 3, field by field: what a reading answers, by the first fault, and
-//! what a message is written as.
+//! Message bodies and frames by document 02's tickets 3 and 4, field by field: what a reading answers, by the first fault,
+//! and what a message is written as.
 
 use cuwelfra_sys::{EnvelopeRead, FrameTold, MessageTold, Told};
 
 use crate::port::area::{self, Area};
 use crate::port::rows::{read_logged, Row, SLOT};
-use crate::support::refused;
+use crate::leb128::{self, put};
+use crate::support::{refused, Refusing};
 
 pub type Pairs = Vec<(u64, u64)>;
 
@@ -73,6 +74,22 @@ pub const BODY: [Field; 17] = [
     Field::Signature,
     Field::BodyEnd,
 ];
+/// The fields of each message that are numbers, by tag.
+pub const NUMBERED: [&[Field]; 5] = [ENTRIES, ROWS, ENTRIES, &[Field::Nonce], &[Field::Nonce]];
+const ENTRIES: &[Field] = &[Field::EntryCount, Field::EntryAuthor, Field::EntryNumber];
+const ROWS: &[Field] = &[
+    Field::RowCount,
+    Field::Wall,
+    Field::Counter,
+    Field::StampAuthor,
+    Field::Author,
+    Field::Sequence,
+    Field::CauseCount,
+    Field::CauseAuthor,
+    Field::CauseNumber,
+    Field::Payload,
+    Field::Signature,
+];
 /// The lent areas, of which the first is tested before all else and the second after it.
 pub const AREAS: [Field; 2] = [Field::ClockArea, Field::RowsArea];
 
@@ -83,10 +100,10 @@ impl Field {
             Self::ClockArea | Self::RowsArea => &[2],
             Self::Tag => &[22, 29],
             Self::FrameEnd | Self::BodyEnd => &[25],
-            Self::BodyLength | Self::BodySignature => &[22, 23, 24],
+            Self::BodyLength | Self::BodySignature => &[22, 23, 30, 24],
             _ => match self.limits() {
-                Some(_) => &[22, 23, 24, 4],
-                None => &[22, 23],
+                Some(_) => &[22, 23, 30, 24, 4],
+                None => &[22, 23, 30],
             },
         }
     }
@@ -106,12 +123,13 @@ impl Field {
     }
 }
 
-/// A refusal, where it stands, and the count or length there.
+/// A refusal, where it stands, the count or length there, and the tag of the body.
 #[derive(Clone, Copy, Debug, PartialEq, Eq)]
 pub struct Fault {
     pub told: Told,
     pub field: Field,
     pub size: Option<Size>,
+    pub tag: Option<u8>,
 }
 
 /// A count or a length, and how many bytes are left before it and behind it.
@@ -124,7 +142,14 @@ pub struct Size {
 
 type Read<T> = Result<T, Fault>;
 
-/// What readings met in clocks, dependencies and numbers.
+impl Fault {
+    /// Whether a number is in more bytes than it needs.
+    pub fn is_overlong(&self) -> bool {
+        self.told.number == leb128::OVERLONG
+    }
+}
+
+/// What readings met in clocks and dependencies.
 #[derive(Clone, Copy, Debug, Default, PartialEq, Eq)]
 pub struct Met {
     /// An author that is below the one before it.
@@ -133,8 +158,13 @@ pub struct Met {
     pub repeated: bool,
     /// An entry of 0 in what was read.
     pub zero: bool,
-    /// A number in more bytes than it needs.
-    pub overlong: bool,
+}
+
+impl Met {
+    /// Whether the authors of every clock and of all dependencies rise, so that the message is written as it was read.
+    pub fn rose(&self) -> bool {
+        !self.fell && !self.repeated
+    }
 }
 
 /// The message that fills all of the body, and what was met up to its end or its first fault.
@@ -143,7 +173,8 @@ pub fn read_message(body: &[u8]) -> (Read<Message>, Met) {
         left: body,
         met: Met::default(),
     };
-    let read = walk.message();
+    let tag = body.first().copied();
+    let read = walk.message().map_err(|fault| Fault { tag, ..fault });
     (read, walk.met)
 }
 
@@ -208,12 +239,9 @@ impl<'a> Walk<'a> {
 
     fn row(&mut self) -> Read<Row> {
         let wall = self.number(Field::Wall)?;
-        let counter = self.number(Field::Counter)?;
-        let Ok(counter) = u32::try_from(counter) else {
-            return fault(refused(23), Field::Counter);
-        };
+        let counter = self.read(Field::Counter, leb128::read_u32)?;
         Ok(Row {
-            stamp: (wall, counter, self.number(Field::StampAuthor)?),
+            stamp: (wall, counter as u32, self.number(Field::StampAuthor)?),
             author: self.number(Field::Author)?,
             seq: self.number(Field::Sequence)?,
             deps: self.pairs(Field::CauseCount, Field::CauseAuthor, Field::CauseNumber)?,
@@ -264,13 +292,17 @@ impl<'a> Walk<'a> {
                 before,
                 left,
             }),
+            tag: None,
         })
     }
 
     fn number(&mut self, field: Field) -> Read<u64> {
-        match leb128(self.left) {
+        self.read(field, leb128::read)
+    }
+
+    fn read(&mut self, field: Field, read: fn(&[u8]) -> leb128::Read) -> Read<u64> {
+        match read(self.left) {
             Ok((number, len)) => {
-                self.met.overlong |= len > 1 && self.left[len - 1] == 0;
                 self.left = &self.left[len..];
                 Ok(number)
             }
@@ -291,24 +323,8 @@ fn fault<T>(told: Told, field: Field) -> Read<T> {
         told,
         field,
         size: None,
+        tag: None,
     })
-}
-
-/// A number and its length: seven bits a byte, the lowest first, the last byte below 128. 23 where it has more than 64
-/// bits or an eleventh byte, else 22 where the last byte is missing.
-fn leb128(bytes: &[u8]) -> Result<(u64, usize), u64> {
-    let before = bytes.iter().take(11).take_while(|byte| **byte > 127);
-    let before = before.count();
-    let wide = before >= 9 && bytes.get(9).is_some_and(|tenth| tenth & 127 > 1);
-    if wide || before >= 10 && bytes.len() > 10 {
-        return Err(23);
-    }
-    if before == bytes.len() {
-        return Err(22);
-    }
-    let bits = bytes[..=before].iter().rev();
-    let number = bits.fold(0, |number, byte| number << 7 | u64::from(byte & 127));
-    Ok((number, before + 1))
 }
 
 /// What a reading call answers, what it writes, and where it was refused.
@@ -388,29 +404,6 @@ pub fn frame_call(frame: &[u8], clock: usize, rows: usize) -> Answer<FrameTold> 
     }
 }
 
-/// An answer that all is 0 of but the refusal.
-pub trait Refusing: Default {
-    fn refusing(told: Told) -> Self;
-}
-
-impl Refusing for MessageTold {
-    fn refusing(told: Told) -> Self {
-        Self {
-            told,
-            ..Self::default()
-        }
-    }
-}
-
-impl Refusing for FrameTold {
-    fn refusing(told: Told) -> Self {
-        Self {
-            told,
-            ..Self::default()
-        }
-    }
-}
-
 fn turned_down<T: Refusing>(fault: Fault, met: Met) -> Answer<T> {
     Answer {
         told: T::refusing(fault.told),
@@ -425,6 +418,7 @@ fn short(field: Field) -> Fault {
         told: refused(2),
         field,
         size: None,
+        tag: None,
     }
 }
 
@@ -518,20 +512,10 @@ fn put_pairs(out: &mut Vec<u8>, pairs: &[(u64, u64)]) {
     }
 }
 
-/// The shortest form of a number: as many bytes as its bits need, at least one.
-pub fn put(out: &mut Vec<u8>, number: u64) {
-    let bits = 64 - (number | 1).leading_zeros();
-    let last = (bits - 1) / 7;
-    let sevens = (0..=last).map(|i| (number >> (7 * i)) as u8 & 127);
-    out.extend(sevens.zip(0..).map(|(byte, i)| match i < last {
-        true => byte | 128,
-        false => byte,
-    }));
-}
-
 #[cfg(test)]
 mod tests {
     use super::*;
+    use crate::leb128::longer;
 
     fn read(body: &[u8]) -> Result<Message, (u64, Field)> {
         let (read, _) = read_message(body);
@@ -549,7 +533,6 @@ mod tests {
         assert_eq!(read(&[0, 2, 5, 9, 5, 2]), Ok(Hello(vec![(5, 9)])));
         assert_eq!(read(&[1, 0]), Ok(Delta(vec![])));
         assert_eq!(read(&[3, 0xac, 2]), Ok(Ping(300)));
-        assert_eq!(read(&[4, 0x80, 0]), Ok(Pong(0)));
         assert_eq!(read(&[]), Err((22, Tag)));
         assert_eq!(read(&[5]), Err((29, Tag)));
         assert_eq!(read(&[0x80, 0]), Err((29, Tag)));
@@ -562,22 +545,17 @@ mod tests {
         assert_eq!(read(&many(32, 63)), Err((22, EntryNumber)));
     }
 
-    /// Numbers in and out, at every length.
+    /// 30 comes before 24 and 4, and behind 23; the tag is no number.
     #[test]
-    fn numbers_go_round() {
-        for power in 0..64 {
-            for number in [(1 << power) - 1, 1 << power, u64::MAX >> power] {
-                let mut out = Vec::new();
-                put(&mut out, number);
-                assert_eq!(leb128(&out), Ok((number, out.len())));
-                assert_eq!(leb128(&out[..out.len() - 1]), Err(22));
-            }
-        }
-        let nine = [0x80; 9];
-        assert_eq!(leb128(&[&nine[..], &[1]].concat()), Ok((1 << 63, 10)));
-        assert_eq!(leb128(&[&nine[..], &[2]].concat()), Err(23));
-        assert_eq!(leb128(&[&nine[..], &[0x80]].concat()), Err(22));
-        assert_eq!(leb128(&[&nine[..], &[0x82]].concat()), Err(23));
-        assert_eq!(leb128(&[&nine[..], &[0x80, 0]].concat()), Err(23));
+    fn overlong_numbers() {
+        use Field::*;
+        assert_eq!(read(&[4, 0x80, 0]), Err((30, Nonce)));
+        assert_eq!(read(&[0, 0x81, 0]), Err((30, EntryCount)));
+        let rows = |count: &[u8]| [&[1], count, &[0; 65]].concat();
+        assert_eq!(read(&rows(&[65])), Err((4, RowCount)));
+        assert_eq!(read(&rows(&[0xc1, 0])), Err((30, RowCount)));
+        let counter = |number, more| [&[1, 1, 0][..], &longer(number, more)].concat();
+        assert_eq!(read(&counter(7, 1)), Err((30, Counter)));
+        assert_eq!(read(&counter(1 << 32, 1)), Err((23, Counter)));
     }
 }

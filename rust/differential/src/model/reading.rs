@@ -1,15 +1,32 @@
-//! Reads a batch by document 01's layout: its rows, or 3 or 4 by the first fault.
+//! Reads a batch by document 01's layout, each number in its shortest form: its rows, or 3 or 4 by the first fault.
 
+use crate::leb128;
 use crate::port::batches::BatchRow;
 use crate::port::rows::{outcome_fits, Row};
 
 /// What is left of the bytes.
 struct Rest<'a>(&'a [u8]);
 
-type Read<T> = Result<T, u64>;
+type Read<T> = Result<T, Fault>;
 
-const UNREADABLE: u64 = 3;
-const OVER_CAPACITY: u64 = 4;
+/// Why bytes do not read.
+#[derive(Clone, Copy, Debug, PartialEq, Eq)]
+pub enum Fault {
+    /// A number in more bytes than it needs.
+    Overlong,
+    Unreadable,
+    OverCapacity,
+}
+
+impl Fault {
+    /// 02: "in a batch the refusal is 3."
+    pub fn number(self) -> u64 {
+        match self {
+            Self::Overlong | Self::Unreadable => 3,
+            Self::OverCapacity => 4,
+        }
+    }
+}
 
 /// A varint count of at most 64, as many rows, then nothing.
 pub fn read_batch(bytes: &[u8]) -> Read<Vec<BatchRow>> {
@@ -17,7 +34,7 @@ pub fn read_batch(bytes: &[u8]) -> Read<Vec<BatchRow>> {
     let count = rest.size(64)?;
     let rows = (0..count).map(|_| rest.row()).collect::<Read<Vec<_>>>()?;
     if !rest.0.is_empty() {
-        return Err(UNREADABLE);
+        return Err(Fault::Unreadable);
     }
     Ok(rows)
 }
@@ -27,43 +44,43 @@ pub fn read_unsigned(bytes: &[u8]) -> Read<Row> {
     let mut rest = Rest(bytes);
     let row = rest.unsigned()?;
     if !rest.0.is_empty() {
-        return Err(UNREADABLE);
+        return Err(Fault::Unreadable);
     }
     Ok(row)
 }
 
 impl Rest<'_> {
     fn byte(&mut self) -> Read<u64> {
-        let (first, rest) = self.0.split_first().ok_or(UNREADABLE)?;
+        let (first, rest) = self.0.split_first().ok_or(Fault::Unreadable)?;
         self.0 = rest;
         Ok(u64::from(*first))
     }
 
-    /// At most ten bytes of seven bits, the lowest first, whose value has at most 64 bits.
     fn varint(&mut self) -> Read<u64> {
-        let mut value: u128 = 0;
-        for i in 0..10 {
-            let byte = self.byte()?;
-            value |= u128::from(byte & 0x7f) << (7 * i);
-            if byte < 0x80 {
-                return u64::try_from(value).map_err(|_| UNREADABLE);
-            }
-        }
-        Err(UNREADABLE)
+        self.number(leb128::read)
+    }
+
+    fn number(&mut self, read: fn(&[u8]) -> leb128::Read) -> Read<u64> {
+        let (value, len) = read(self.0).map_err(|number| match number {
+            leb128::OVERLONG => Fault::Overlong,
+            _ => Fault::Unreadable,
+        })?;
+        self.0 = &self.0[len..];
+        Ok(value)
     }
 
     /// A number of things, not above its capacity.
     fn size(&mut self, capacity: u64) -> Read<usize> {
         let size = self.varint()?;
         if size > capacity {
-            return Err(OVER_CAPACITY);
+            return Err(Fault::OverCapacity);
         }
         Ok(size as usize)
     }
 
     fn bytes(&mut self, capacity: u64) -> Read<Vec<u8>> {
         let size = self.size(capacity)?;
-        let (bytes, rest) = self.0.split_at_checked(size).ok_or(UNREADABLE)?;
+        let (bytes, rest) = self.0.split_at_checked(size).ok_or(Fault::Unreadable)?;
         self.0 = rest;
         Ok(bytes.to_vec())
     }
@@ -75,7 +92,7 @@ impl Rest<'_> {
         for _ in 0..count {
             let pair = (self.varint()?, self.varint()?);
             if deps.last().is_some_and(|last| last.0 >= pair.0) {
-                return Err(UNREADABLE);
+                return Err(Fault::Unreadable);
             }
             deps.push(pair);
         }
@@ -85,9 +102,9 @@ impl Rest<'_> {
     /// All of a row but its signature.
     fn unsigned(&mut self) -> Read<Row> {
         let wall = self.varint()?;
-        let counter = u32::try_from(self.varint()?).map_err(|_| UNREADABLE)?;
+        let counter = self.number(leb128::read_u32)?;
         Ok(Row {
-            stamp: (wall, counter, self.varint()?),
+            stamp: (wall, counter as u32, self.varint()?),
             author: self.varint()?,
             seq: self.varint()?,
             deps: self.deps()?,
@@ -101,7 +118,7 @@ impl Rest<'_> {
         row.signature = self.bytes(64)?;
         let (verdict, outcome, detail) = (self.byte()?, self.byte()?, self.byte()?);
         if verdict > 1 || !outcome_fits(outcome, detail) {
-            return Err(UNREADABLE);
+            return Err(Fault::Unreadable);
         }
         Ok(BatchRow {
             row,

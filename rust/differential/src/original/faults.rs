@@ -1,20 +1,22 @@
 //! What a batch row comes to here and in the original, by one reading of its bytes: document 01's rules and those of
-//! `Reader::signed_op`, side by side. Where only one of the two stops, the reading goes on for the other.
+//! `Reader::signed_op`, side by side. Where only one of the two stops, the reading goes on for the other; but where an
+//! overlong number is the first fault, the original is not asked.
 
 use std::fmt;
 
-use oracle::error::CodecError;
-
+use crate::leb128::{self, OVERLONG};
 use crate::port::rows::{outcome_fits, Held, Row, DEPS, PAYLOAD, SIGNATURE};
 use crate::port::store::{observe, Entries};
 
-/// Why document 01 refuses a batch row.
+/// Why the documents refuse a batch row.
 #[derive(Clone, Copy, Debug, PartialEq, Eq, PartialOrd, Ord)]
 pub enum Fault {
     /// 3: the bytes end.
     CutShort,
     /// 3: a varint above 64 bits, or a counter above 32.
     TooWide,
+    /// 3: a varint in more bytes than it needs.
+    Overlong,
     /// 3: a count or length within its capacity, but above the bytes that are left.
     AboveRest,
     /// 3: authors that do not strictly rise.
@@ -38,31 +40,35 @@ impl Fault {
 pub struct Judged {
     /// The row, the verdict and the position behind it, or the first fault.
     pub here: Result<(Held, u64, usize), Fault>,
-    /// What the original makes of the bytes up to the signature.
-    pub there: Result<Row, CodecError>,
+    /// What the original makes of the bytes up to the signature, or the number of its error; `None` where it is not asked.
+    pub there: Option<Result<Row, u64>>,
 }
 
-/// Both answers without their values: the fault and the error, `None` where the row is read.
+/// What stands for the original's answer where it is not asked.
+pub const NOT_ASKED: &str = "not asked";
+
+/// Both answers without their values: the fault, `None` where the row is read, and what the original says.
 #[derive(Clone, Copy, Debug, PartialEq, Eq, PartialOrd, Ord)]
 pub struct Kind {
     pub here: Option<Fault>,
-    pub there: Option<&'static str>,
+    pub there: &'static str,
     /// Whether both read it, the original without dependencies of number 0.
     pub dropped: bool,
 }
 
 impl Judged {
     pub fn kind(&self) -> Kind {
-        let there = self.there.as_ref();
         Kind {
             here: self.here.as_ref().err().copied(),
-            there: there.err().map(|error| match error {
-                CodecError::Truncated => "Truncated",
-                CodecError::TooLarge => "TooLarge",
-                _ => "VarintOverflow",
-            }),
-            dropped: match (&self.here, there) {
-                (Ok((held, ..)), Ok(row)) => held.row != *row,
+            there: match self.there {
+                None => NOT_ASKED,
+                Some(Ok(_)) => "read",
+                Some(Err(22)) => "Truncated",
+                Some(Err(23)) => "VarintOverflow",
+                Some(Err(_)) => "TooLarge",
+            },
+            dropped: match (&self.here, &self.there) {
+                (Ok((held, ..)), Some(Ok(row))) => held.row != *row,
                 _ => false,
             },
         }
@@ -75,8 +81,8 @@ impl fmt::Display for Kind {
             None if self.dropped => write!(f, "read here, there without a zero"),
             None => write!(f, "read by both"),
             Some(fault) => {
-                let there = self.there.unwrap_or("read");
-                write!(f, "{} for {fault:?} here, {there} there", fault.number())
+                let (number, there) = (fault.number(), self.there);
+                write!(f, "{number} for {fault:?} here, {there} there")
             }
         }
     }
@@ -90,19 +96,20 @@ pub fn judged(bytes: &[u8]) -> Judged {
     };
     let row = match reading.row() {
         Ok(row) => row,
-        Err(error) => {
-            let stopped = match error {
-                CodecError::Truncated => Fault::CutShort,
-                CodecError::TooLarge => Fault::AboveRest,
-                _ => Fault::TooWide,
+        Err(number) => {
+            let stopped = match number {
+                22 => Fault::CutShort,
+                23 => Fault::TooWide,
+                OVERLONG => Fault::Overlong,
+                _ => Fault::AboveRest,
             };
             return Judged {
                 here: Err(reading.fault.unwrap_or(stopped)),
-                there: Err(error),
+                there: (number != OVERLONG).then_some(Err(number)),
             };
         }
     };
-    let there = Ok(observed(&row));
+    let there = Some(Ok(observed(&row)));
     let here = match reading.fault {
         Some(fault) => Err(fault),
         None => reading.closed(row, bytes.len()),
@@ -128,30 +135,22 @@ struct Reading<'a> {
     fault: Option<Fault>,
 }
 
-/// Both stop at an error.
-type Read<T> = Result<T, CodecError>;
+/// The number of what both stop at, or of an overlong number.
+type Read<T> = Result<T, u64>;
 
 impl Reading<'_> {
-    fn byte(&mut self) -> Read<u8> {
-        let (first, rest) = self.rest.split_first().ok_or(CodecError::Truncated)?;
-        self.rest = rest;
-        Ok(*first)
+    /// Once a fault has stopped us, the original still takes any form.
+    fn varint(&mut self) -> Read<u64> {
+        self.number(match self.fault {
+            None => leb128::read,
+            Some(_) => leb128::read_any,
+        })
     }
 
-    /// Seven bits to a byte, the lowest first, at most ten bytes. The original takes an eleventh before it refuses it.
-    fn varint(&mut self) -> Read<u64> {
-        let mut value: u128 = 0;
-        for i in 0..11 {
-            let byte = self.byte()?;
-            value |= u128::from(byte & 0x7f) << (7 * i);
-            if i == 10 || value > u128::from(u64::MAX) {
-                break;
-            }
-            if byte < 0x80 {
-                return Ok(value as u64);
-            }
-        }
-        Err(CodecError::VarintOverflow)
+    fn number(&mut self, read: fn(&[u8]) -> leb128::Read) -> Read<u64> {
+        let (value, len) = read(self.rest)?;
+        self.rest = &self.rest[len..];
+        Ok(value)
     }
 
     /// A count or length: at most `capacity` here, at most `limit` there, where it is also held against what is left.
@@ -161,7 +160,7 @@ impl Reading<'_> {
             self.fault.get_or_insert(Fault::OverCapacity);
         }
         if size > limit || size > self.rest.len() as u64 {
-            return Err(CodecError::TooLarge);
+            return Err(24);
         }
         Ok(size as usize)
     }
@@ -187,10 +186,9 @@ impl Reading<'_> {
 
     fn row(&mut self) -> Read<Row> {
         let wall = self.varint()?;
-        let counter = self.varint()?;
-        let counter = u32::try_from(counter).map_err(|_| CodecError::VarintOverflow)?;
+        let counter = self.number(leb128::read_u32)?;
         Ok(Row {
-            stamp: (wall, counter, self.varint()?),
+            stamp: (wall, counter as u32, self.varint()?),
             author: self.varint()?,
             seq: self.varint()?,
             deps: self.deps()?,

@@ -46,6 +46,8 @@ pub struct Alone {
     pub over_capacity: [u64; 2],
     /// 29 here for a snapshot's tag, where the original read the body or refused it.
     pub snapshots: [u64; 2],
+    /// 30 here; the original was not asked.
+    pub overlong: u64,
     /// Bodies of which both spoke.
     pub both: u64,
     /// Entries of 0 that the original dropped.
@@ -54,9 +56,13 @@ pub struct Alone {
 
 impl Alone {
     /// Requires that the original reads the body as the model does: the same refusal, or the same message but for its
-    /// entries of 0. Of 4, and of 29 for a snapshot's tag, the model speaks alone; where it says 4, the original has taken
-    /// the count or length.
+    /// entries of 0. Of 4, of 29 for a snapshot's tag and of 30 the model speaks alone; where it says 4, the original has
+    /// taken the count or length; where it says 30, the original is not asked.
     pub fn judge(&mut self, body: &[u8], read: &Result<Message, Fault>) -> Check {
+        if read.as_ref().is_err_and(Fault::is_overlong) {
+            self.overlong += 1;
+            return Ok(());
+        }
         let theirs = decoded(body);
         let inputs = || format!("the model beside the original on {body:02x?}");
         let refused = usize::from(theirs.is_err());
@@ -87,17 +93,19 @@ impl Alone {
         let Self {
             over_capacity: [over_read, over_refused],
             snapshots: [snapshots_read, snapshots_refused],
+            overlong,
             both,
             dropped,
         } = self;
         let text = format!(
-            "the original judged {both}, and dropped entries of 0 in {dropped}; 4 here and read there {over_read}, \
-             refused there {over_refused}; a snapshot's tag, read there {snapshots_read}, refused there \
-             {snapshots_refused}"
+            "compared with the original {both}, which dropped entries of 0 in {dropped}; overlong, refused with 30 \
+             {overlong}; 4 here and read there {over_read}, refused there {over_refused}; a snapshot's tag, read there \
+             {snapshots_read}, refused there {snapshots_refused}"
         );
         let counts = [
             both,
             dropped,
+            overlong,
             over_read,
             over_refused,
             snapshots_read,

@@ -9,6 +9,7 @@ pub mod judges;
 pub mod listed;
 pub mod merger;
 pub mod messages;
+pub mod numbers;
 mod pending;
 pub mod replica;
 

@@ -3,6 +3,7 @@
 use cuwelfra::Limits;
 use cuwelfra_sys::{DeltaTold, HybridParts, Told};
 
+use crate::leb128::put;
 use crate::port::rows::{Row, Stamp};
 
 /// Bytes of a line.
@@ -71,7 +72,7 @@ pub fn outcome_of(author: u64, payload: &[u8]) -> (u64, u64) {
 /// The bytes of a batch of these rows.
 pub fn batch(rows: &[BatchRow]) -> Vec<u8> {
     let mut bytes = Vec::new();
-    put_varint(&mut bytes, rows.len() as u64);
+    put(&mut bytes, rows.len() as u64);
     for row in rows {
         put_row(&mut bytes, row);
     }
@@ -81,7 +82,7 @@ pub fn batch(rows: &[BatchRow]) -> Vec<u8> {
 fn put_row(bytes: &mut Vec<u8>, lent: &BatchRow) {
     let signature = &lent.row.signature;
     bytes.extend(unsigned(&lent.row));
-    put_varint(bytes, signature.len() as u64);
+    put(bytes, signature.len() as u64);
     bytes.extend(signature);
     bytes.extend([lent.verdict, lent.outcome, lent.detail].map(|number| number as u8));
 }
@@ -91,26 +92,16 @@ pub fn unsigned(row: &Row) -> Vec<u8> {
     let mut bytes = Vec::new();
     let (wall, counter, stamper) = row.stamp;
     for number in [wall, u64::from(counter), stamper, row.author, row.seq] {
-        put_varint(&mut bytes, number);
+        put(&mut bytes, number);
     }
-    put_varint(&mut bytes, row.deps.len() as u64);
+    put(&mut bytes, row.deps.len() as u64);
     for (author, number) in &row.deps {
-        put_varint(&mut bytes, *author);
-        put_varint(&mut bytes, *number);
+        put(&mut bytes, *author);
+        put(&mut bytes, *number);
     }
-    put_varint(&mut bytes, row.payload.len() as u64);
+    put(&mut bytes, row.payload.len() as u64);
     bytes.extend(&row.payload);
     bytes
-}
-
-/// The shortest varint of a number.
-pub fn put_varint(bytes: &mut Vec<u8>, number: u64) {
-    let mut rest = number;
-    while rest >= 0x80 {
-        bytes.push(rest as u8 | 0x80);
-        rest >>= 7;
-    }
-    bytes.push(rest as u8);
 }
 
 /// A logged row in the output.

@@ -2,11 +2,11 @@
 
 use std::fmt::Debug;
 
-use crate::model::messages::{Answer, Message, Refusing, Written};
+use crate::model::messages::{Answer, Message, Written};
 use crate::port::area::BYTES;
 use crate::port::rows::SLOT;
 use crate::port::wrapped::wrapped_row;
-use crate::support::{agree, pattern, Check};
+use crate::support::{agree, pattern, Check, Refusing};
 
 /// Rows of a Delta at most.
 pub const ROWS: usize = 64;

@@ -1,6 +1,7 @@
 //! Messages within capacity, and bodies and frames of our own writing, whole and with faults.
 
-use crate::model::messages::{put, Field, Message, Pairs};
+use crate::leb128::{lengthen, put};
+use crate::model::messages::{Field, Message, Pairs};
 use crate::port::messages::ROWS;
 use crate::port::rows::{Row, DEPS, PAYLOAD, SIGNATURE};
 use crate::rng::Rng;
@@ -80,12 +81,14 @@ fn number(rng: &mut Rng) -> u64 {
     }
 }
 
-/// A body of our own writing: overlong numbers, authors in any order, sizes around every limit, counts that lie.
+/// A body of our own writing: overlong numbers in a few, authors in any order, sizes around every limit, counts that lie.
 pub fn body(rng: &mut Rng) -> Vec<u8> {
     let lies = rng.pick(&[0, 0, 0, 60, 12]);
+    let pads = rng.pick(&[0, 0, 0, 0, 8, 40]);
     let mut pen = Pen {
         rng,
         lies,
+        pads,
         out: Vec::new(),
     };
     pen.body();
@@ -98,7 +101,8 @@ pub fn body(rng: &mut Rng) -> Vec<u8> {
     out
 }
 
-/// Bodies with counts and lengths around the limit and the capacity, and one byte less behind them, as many, or one more.
+/// Bodies with counts and lengths around the limit and the capacity, each also in a byte more than it needs, and one byte
+/// less behind them, as many, or one more.
 pub fn sizes(rng: &mut Rng, mut each: impl FnMut(&[u8]) -> Check) -> Check {
     // A row that is whole, and the start of one.
     let row = [9, 9, 9, 9, 9, 0, 1, 7, 0];
@@ -124,9 +128,10 @@ pub fn sizes(rng: &mut Rng, mut each: impl FnMut(&[u8]) -> Check) -> Check {
             let near = [size.wrapping_sub(1), size, size.wrapping_add(1)];
             let lefts = near.into_iter().chain([0, limit + 1]);
             for left in lefts.filter(|left| *left <= limit + 2) {
-                for fill in [0, 1, 0x80, 0xff] {
+                for (fill, more) in [(0, 0), (1, 0), (0x80, 0), (0xff, 0), (1, 1)] {
                     let mut body = start.clone();
                     put(&mut body, size);
+                    lengthen(&mut body, more);
                     body.resize(body.len() + left as usize, fill);
                     if rng.once_in(4) {
                         let end = body.len() - (left as usize).min(40);
@@ -143,6 +148,7 @@ pub fn sizes(rng: &mut Rng, mut each: impl FnMut(&[u8]) -> Check) -> Check {
 /// A frame of our own writing around a body.
 pub fn frame(rng: &mut Rng, body: &[u8]) -> Vec<u8> {
     let lies = rng.pick(&[0, 0, 0, 0, 6]);
+    let pads = rng.pick(&[0, 0, 0, 0, 0, 4]);
     let sizes = [0, 1, 2, 63, 64, 65, 127, 128, 300, 1_023, 1_024, 1_025];
     let sig = rng.pick(&[0, 0, 1, 3, 8]).max(match rng.once_in(12) {
         true => rng.pick(&sizes),
@@ -153,6 +159,7 @@ pub fn frame(rng: &mut Rng, body: &[u8]) -> Vec<u8> {
     let mut pen = Pen {
         rng,
         lies,
+        pads,
         out: Vec::new(),
     };
     pen.number(sender);
@@ -165,10 +172,12 @@ pub fn frame(rng: &mut Rng, body: &[u8]) -> Vec<u8> {
     out
 }
 
-/// Writes numbers in any form, and once in so many sizes another size than the true one; never where that is 0.
+/// Writes once in so many sizes another size than the true one, and once in so many numbers an overlong one; never where
+/// that is 0.
 struct Pen<'a> {
     rng: &'a mut Rng,
     lies: usize,
+    pads: usize,
     out: Vec<u8>,
 }
 
@@ -279,22 +288,16 @@ impl Pen<'_> {
         self.number(size);
     }
 
-    /// In its shortest form, with bytes that add nothing, or too wide.
+    /// In its shortest form, overlong, or, where sizes lie, in twelve bytes.
     fn number(&mut self, number: u64) {
         let at = self.out.len();
         put(&mut self.out, number);
-        if !self.rng.once_in(24) {
-            return;
-        }
         let len = self.out.len() - at;
-        let more = match self.lies > 0 && self.rng.once_in(12) {
-            true => 12 - len,
-            false => self.rng.below(11 - len),
+        let more = match () {
+            _ if self.lies > 0 && self.rng.once_in(288) => 12 - len,
+            _ if self.pads > 0 && self.rng.once_in(self.pads) => self.rng.below(11 - len),
+            _ => 0,
         };
-        if let (Some(last), true) = (self.out.last_mut(), more > 0) {
-            *last |= 0x80;
-            self.out.extend(vec![0x80; more - 1]);
-            self.out.push(0);
-        }
+        lengthen(&mut self.out, more);
     }
 }

@@ -6,6 +6,7 @@ pub mod damage;
 pub mod lists;
 pub mod messages;
 pub mod own;
+pub mod pieces;
 pub mod strange;
 
 use std::collections::{BTreeMap, BTreeSet};

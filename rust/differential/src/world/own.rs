@@ -1,6 +1,7 @@
 //! Rows of two stores' own, over a small universe.
 
-use crate::port::batches::{put_varint, unsigned};
+use crate::leb128::{lengthen_first, put};
+use crate::port::batches::unsigned;
 use crate::port::own::Sealing;
 use crate::port::rows::Row;
 use crate::rng::Rng;
@@ -62,9 +63,11 @@ pub fn sealing(rng: &mut Rng, universe: &Universe, bytes: Vec<u8>) -> Sealing {
     match rng.below(8) {
         // Cut short, or longer.
         0 => drop(lent.bytes.pop()),
-        1 => put_varint(&mut lent.bytes, 0),
+        1 => put(&mut lent.bytes, 0),
+        // With an overlong number.
+        2 => lengthen_first(&mut lent.bytes),
         // Made up by hand.
-        2 => lent.bytes = unsigned(&universe.rows[rng.below(universe.rows.len())]),
+        3 => lent.bytes = unsigned(&universe.rows[rng.below(universe.rows.len())]),
         _ => {}
     }
     lent

@@ -3,6 +3,7 @@
 
 use cuwelfra::Limits;
 
+use crate::leb128::lengthen_first;
 use crate::port::batches::BatchRow;
 use crate::port::lending::Lent;
 use crate::port::rows::{DEPS, PAYLOAD, SIGNATURE, SLOT};
@@ -59,11 +60,12 @@ pub fn short(rng: &mut Rng, areas: &mut Areas, lent: &mut Lent) {
     }
 }
 
-/// A batch that is cut, goes on, or has another byte.
+/// A batch that is cut, goes on, begins with an overlong number, or has another byte.
 pub fn unreadable(rng: &mut Rng, batch: &mut Vec<u8>) {
-    match rng.below(3) {
+    match rng.below(4) {
         0 => batch.truncate(rng.below(batch.len())),
         1 => batch.push(rng.byte()),
+        2 => lengthen_first(batch),
         _ => {
             let at = rng.below(batch.len());
             batch[at] = rng.byte();

@@ -4,17 +4,19 @@
 use cuwelfra::Limits;
 
 use crate::census::Census;
+use crate::leb128::longer;
 use crate::model::{batch_call, modelled};
 use crate::port::area::word;
-use crate::port::batches::{put_varint, BatchRow, Offer};
+use crate::port::batches::{BatchRow, Offer};
 use crate::port::lending::Lent;
 use crate::port::rows::SLOT;
 use crate::port::store::{Areas, HEAD, HELD};
 use crate::rng::Rng;
-use crate::support::{Check, Outcome};
+use crate::support::{agree, refused, Check, Outcome};
 use crate::world::clocks::clock;
 use crate::world::damage::{last_held, DAMAGES, HELD_DAMAGES};
 use crate::world::lists::Universe;
+use crate::world::pieces;
 
 /// Batches that are cut and replaced at every place.
 const BATCHES: usize = 50;
@@ -69,6 +71,7 @@ pub fn run(rng: &mut Rng) -> Outcome {
         sample.in_order(&mut census)?;
         sample.damaged(&mut census)?;
     }
+    census.overlong_batches("batch-bytes")?;
     census.folds("batch-bytes", &["passed"])?;
     census.finish("batch-bytes", 1..=4, &[])
 }
@@ -139,35 +142,28 @@ impl Sample {
         Ok(())
     }
 
-    /// Each number alone replaced, or written in more bytes.
+    /// Each number alone replaced, or written in more bytes, which is 3 whatever it is.
     fn every_number(&self, census: &mut Census) -> Check {
-        let pieces = pieces(&self.rows);
-        for at in 0..pieces.len() {
-            let Piece::Number(number) = pieces[at] else {
-                continue;
-            };
-            let mut batch = |written: Vec<u8>| {
-                let mut batch = Vec::new();
-                for (i, piece) in pieces.iter().enumerate() {
-                    match piece {
-                        _ if i == at => batch.extend(&written),
-                        Piece::Number(number) => put_varint(&mut batch, *number),
-                        Piece::Bytes(bytes) => batch.extend(bytes),
-                    }
-                }
-                modelled(census, &self.areas, &self.with(batch))
-            };
+        let pieces = pieces::batch(&self.rows);
+        for (at, ..) in pieces::numbers(&pieces) {
+            let batch = |written: &[u8]| self.with(pieces::with(&pieces, at, written));
             for other in NUMBERS {
-                batch(overlong(other, 0))?;
-            }
-            for more in 1..=10 {
-                batch(overlong(number, more))?;
+                modelled(census, &self.areas, &batch(&longer(other, 0)))?;
+                self.unreadable(census, &batch(&longer(other, 1)))?;
             }
             for long in LONG {
-                batch(long.to_vec())?;
+                modelled(census, &self.areas, &batch(long))?;
             }
         }
-        Ok(())
+        pieces::each_longer(&pieces, |batch, _, _| {
+            self.unreadable(census, &self.with(batch.to_vec()))
+        })
+    }
+
+    fn unreadable(&self, census: &mut Census, lent: &Lent) -> Check {
+        let (answer, _) = batch_call(&self.areas, lent);
+        agree(&answer.told.told, &refused(3), || format!("{lent:02x?}"))?;
+        modelled(census, &self.areas, lent)
     }
 
     /// Batches and rows of every size around their capacities.
@@ -253,42 +249,3 @@ const FAULTS: [fn(&mut Areas, &mut Lent); 11] = [
     |_, lent| lent.scratch = 703,
     |_, lent| lent.limits.max_drift_ms = 0,
 ];
-
-/// A part of a batch.
-enum Piece {
-    Number(u64),
-    Bytes(Vec<u8>),
-}
-
-fn pieces(rows: &[BatchRow]) -> Vec<Piece> {
-    let mut pieces = vec![Piece::Number(rows.len() as u64)];
-    for lent in rows {
-        let row = &lent.row;
-        let (wall, counter, stamper) = row.stamp;
-        let head = [wall, counter.into(), stamper, row.author, row.seq];
-        pieces.extend(head.map(Piece::Number));
-        pieces.push(Piece::Number(row.deps.len() as u64));
-        for (author, number) in &row.deps {
-            pieces.extend([*author, *number].map(Piece::Number));
-        }
-        for part in [&row.payload, &row.signature] {
-            pieces.push(Piece::Number(part.len() as u64));
-            pieces.push(Piece::Bytes(part.clone()));
-        }
-        let closing = [lent.verdict, lent.outcome, lent.detail];
-        pieces.push(Piece::Bytes(closing.map(|number| number as u8).to_vec()));
-    }
-    pieces
-}
-
-/// A varint in so many bytes more than it needs.
-fn overlong(number: u64, more: usize) -> Vec<u8> {
-    let mut bytes = Vec::new();
-    put_varint(&mut bytes, number);
-    for _ in 0..more {
-        let last = bytes.len() - 1;
-        bytes[last] |= 0x80;
-        bytes.push(0);
-    }
-    bytes
-}

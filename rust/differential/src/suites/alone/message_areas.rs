@@ -4,8 +4,9 @@
 use cuwelfra_sys::{self as sys, Told, Written};
 
 use crate::census::Numbers;
+use crate::leb128::put;
 use crate::model::messages::{bytes, clock_body, delta_body, frame_call, message_call, numbers};
-use crate::model::messages::{put, read_message, Message, AREAS};
+use crate::model::messages::{read_message, Message, AREAS};
 use crate::port::area::{self, Area, BYTES};
 use crate::port::messages::{slots_asked, Lent, CLOCK_AREA, ROWS, ROWS_AREA};
 use crate::port::rows::{Row, SLOT};

@@ -14,10 +14,12 @@ use oracle::open::Reader;
 use oracle::peer::Peer;
 use oracle::stubs::crypto::Verifier;
 use oracle::stubs::{ActorId, UirNode};
+use oracle::sync::{Envelope, Message};
 
 use crate::original::beside::operation;
 use crate::original::judges::Applied;
 use crate::original::replica::Signing;
+use crate::original::written;
 use crate::port::area::{self, set_word};
 use crate::port::desk::{row, Desk};
 use crate::rng::Rng;
@@ -26,9 +28,10 @@ use crate::support::{accepted, agree, refused, Check, Outcome};
 
 type Case = fn() -> Check;
 
-const CASES: [(&str, Case); 6] = [
+const CASES: [(&str, Case); 7] = [
     ("a peer with nine pings", nine_pings),
     ("80 ten times, then 00", eleven_bytes),
+    ("80 00", overlong),
     ("{1: 0} beside {}", zero_number),
     ("a count above the bytes left", count_above_rest),
     ("where a refused read leaves the position", refused_read),
@@ -82,6 +85,29 @@ fn eleven_bytes() -> Check {
     agree(&original, &Err(CodecError::VarintOverflow), String::new)?;
     agree(&sys::get_varint(&bytes, 0).told, &refused(23), String::new)?;
     agree(&batch(bytes), &refused(3), String::new)
+}
+
+/// The original reads it as 0, alone, in an envelope, in a message and in a row; here it is 30, in a batch 3. The original
+/// writes 00.
+fn overlong() -> Check {
+    let bytes = [0x80, 0];
+    agree(&Reader::new(&bytes).varint(), &Ok(0), String::new)?;
+    agree(&written(|w| w.varint(0)), &vec![0], String::new)?;
+    agree(&sys::get_varint(&bytes, 0).told, &refused(30), String::new)?;
+    let sender = Envelope::decode(&[0x80, 0, 0, 0]).map(|read| read.sender.0);
+    agree(&sender, &Ok(0), String::new)?;
+    let told = sys::decode_envelope(&[0x80, 0, 0, 0]).told;
+    agree(&told, &refused(30), String::new)?;
+    let message = BinaryCodec.decode(&[3, 0x80, 0]);
+    agree(&message, &Ok(Message::Ping(0)), String::new)?;
+    let told = sys::decode_message(&[3, 0x80, 0], &mut [0; area::BYTES], &mut []).told;
+    agree(&told, &refused(30), String::new)?;
+    // A row of zeros but for author and sequence, with its wall time in two bytes.
+    let row = [0x80, 0, 0, 1, 1, 1, 0, 0, 0];
+    let wall = Reader::new(&row).signed_op().map(|op| op.timestamp.wall_time);
+    agree(&wall, &Ok(0), String::new)?;
+    let whole = [&[1][..], &row, &[1, 0, 0]].concat();
+    agree(&batch(whole), &refused(3), String::new)
 }
 
 /// Equal in order and unequal in content, in the original by `partial_cmp` and `==`.

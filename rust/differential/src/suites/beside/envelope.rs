@@ -1,4 +1,4 @@
-//! Envelopes whole, cut at every length, padded, damaged, and around their limits.
+//! Envelopes whole, cut at every length, padded, damaged, with each number overlong, and around their limits.
 
 use cuwelfra::ActorId;
 use cuwelfra_sys::{self as sys, EnvelopeRead, Told, Written};
@@ -7,32 +7,42 @@ use oracle::open::Reader;
 use oracle::stubs;
 use oracle::sync::Envelope;
 
+use crate::census::Forms;
+use crate::leb128::OVERLONG;
+use crate::model::messages;
 use crate::original::codec_told;
 use crate::rng::Rng;
-use crate::support::{agree, pattern, same_write, Check, Outcome};
+use crate::support::{agree, each_replaced, pattern, refused, same_write, Check, Outcome, Refusing};
+use crate::world::pieces;
 
 const SMALL: usize = 2_000;
 const DAMAGED: usize = 300;
+const LONGER: usize = 300;
 const ANY: usize = 300_000;
 
 pub fn run(rng: &mut Rng) -> Outcome {
+    let forms = &mut Forms::default();
     let mut cases = 0;
     for _ in 0..SMALL {
         let envelope = random(rng, 40, 20);
         cases += encoded(&envelope)?;
-        cases += cut_and_padded(rng, &envelope.encode())?;
+        cut_and_padded(rng, forms, &envelope.encode())?;
     }
     for _ in 0..DAMAGED {
-        cases += damaged(&mut random(rng, 12, 8).encode())?;
+        let frame = random(rng, 12, 8).encode();
+        each_replaced(frame, |frame| decoded(forms, frame, "damaged"))?;
+    }
+    for _ in 0..LONGER {
+        longer(forms, &random(rng, 40, 20))?;
     }
     for _ in 0..ANY {
         let len = rng.below(20);
-        decoded(&rng.bytes(len), "any bytes")?;
-        cases += 1;
+        decoded(forms, &rng.bytes(len), "any bytes")?;
     }
-    cases += lengths(rng)?;
-    cases += around_limits(rng)?;
-    Ok(cases)
+    cases += lengths(rng, forms)?;
+    cases += around_limits(rng, forms)?;
+    forms.finish("envelope", OVERLONG)?;
+    Ok(cases + forms.cases())
 }
 
 fn random(rng: &mut Rng, body: usize, sig: usize) -> Envelope {
@@ -57,32 +67,30 @@ fn encoded(envelope: &Envelope) -> Outcome {
     })
 }
 
-fn cut_and_padded(rng: &mut Rng, frame: &[u8]) -> Outcome {
+fn cut_and_padded(rng: &mut Rng, forms: &mut Forms, frame: &[u8]) -> Check {
     for len in 0..=frame.len() {
-        decoded(&frame[..len], "cut")?;
+        decoded(forms, &frame[..len], "cut")?;
     }
     let mut padded = frame.to_vec();
     for _ in 0..3 {
         padded.push(rng.byte());
-        decoded(&padded, "padded")?;
+        decoded(forms, &padded, "padded")?;
     }
-    Ok(frame.len() as u64 + 4)
+    Ok(())
 }
 
-/// Every byte in turn replaced by every other.
-fn damaged(frame: &mut [u8]) -> Outcome {
-    for i in 0..frame.len() {
-        for flip in 1..=255 {
-            frame[i] ^= flip;
-            decoded(frame, "damaged")?;
-            frame[i] ^= flip;
-        }
-    }
-    Ok(255 * frame.len() as u64)
+/// Sender, body length and signature length, each alone in more bytes than it needs: 30, or 23 above ten bytes.
+fn longer(forms: &mut Forms, envelope: &Envelope) -> Check {
+    let pieces = pieces::envelope(envelope.sender.0, &envelope.body, &envelope.sig);
+    pieces::each_longer(&pieces, |frame, field, refusal| {
+        let told = sys::decode_envelope(frame).told;
+        agree(&told, &refused(refusal), || format!("{field:?} in {frame:02x?}"))?;
+        decoded(forms, frame, "longer")
+    })
 }
 
 /// Body and signature lengths around the varint boundaries and the largest signature.
-fn lengths(rng: &mut Rng) -> Outcome {
+fn lengths(rng: &mut Rng, forms: &mut Forms) -> Outcome {
     let mut cases = 0;
     for body in [0, 1, 127, 128, 300] {
         for sig in [0, 1, 63, 64, 127, 128, 129]
@@ -91,14 +99,14 @@ fn lengths(rng: &mut Rng) -> Outcome {
         {
             let envelope = sized(rng, body, sig);
             cases += encoded(&envelope)?;
-            cases += cut_and_padded(rng, &envelope.encode())?;
+            cut_and_padded(rng, forms, &envelope.encode())?;
         }
     }
     Ok(cases)
 }
 
 /// A few large ones around the largest frame.
-fn around_limits(rng: &mut Rng) -> Outcome {
+fn around_limits(rng: &mut Rng, forms: &mut Forms) -> Outcome {
     let mut cases = 0;
     for body in [MAX_FRAME - 1, MAX_FRAME, MAX_FRAME + 1] {
         for sig in [0, MAX_SIGNATURE, MAX_SIGNATURE + 1] {
@@ -107,14 +115,14 @@ fn around_limits(rng: &mut Rng) -> Outcome {
                 body: pattern(body),
                 sig: pattern(sig),
             };
-            large(&envelope)?;
-            cases += 5;
+            large(forms, &envelope)?;
+            cases += 2;
         }
     }
     Ok(cases)
 }
 
-fn large(envelope: &Envelope) -> Check {
+fn large(forms: &mut Forms, envelope: &Envelope) -> Check {
     let (sender, body, sig) = (envelope.sender.0, &envelope.body, &envelope.sig);
     let what = format!("body of {} bytes, signature of {}", body.len(), sig.len());
     let mut frame = envelope.encode();
@@ -131,24 +139,31 @@ fn large(envelope: &Envelope) -> Check {
     };
     agree(&written, &wanted, || what.clone())?;
     agree(&(out == frame), &true, || format!("{what}, its bytes"))?;
-    decoded_as(&frame, || what.clone())?;
-    decoded_as(&frame[..frame.len() - 1], || format!("{what}, cut"))?;
+    decoded_as(forms, &frame, || what.clone())?;
+    decoded_as(forms, &frame[..frame.len() - 1], || format!("{what}, cut"))?;
     frame.push(0);
-    decoded_as(&frame, || format!("{what}, padded"))
+    decoded_as(forms, &frame, || format!("{what}, padded"))
 }
 
-fn decoded(frame: &[u8], what: &str) -> Check {
-    decoded_as(frame, || format!("decode_envelope of {frame:02x?}, {what}"))
+fn decoded(forms: &mut Forms, frame: &[u8], what: &str) -> Check {
+    decoded_as(forms, frame, || {
+        format!("decode_envelope of {frame:02x?}, {what}")
+    })
 }
 
-fn decoded_as(frame: &[u8], inputs: impl Fn() -> String) -> Check {
-    let original = Envelope::decode(frame);
+/// Requires that the port reads a frame as the original does, or refuses it with 30, of which the original is not asked;
+/// and that an envelope that reads is the bytes that the original writes.
+fn decoded_as(forms: &mut Forms, frame: &[u8], inputs: impl Fn() -> String) -> Check {
+    let own = messages::read_envelope(frame);
+    let overlong = own.is_err_and(|fault| fault.is_overlong());
+    forms.note(overlong);
+    let original = match overlong {
+        true => Err(refused(OVERLONG)),
+        false => Envelope::decode(frame).map_err(|error| codec_told(&error)),
+    };
     let expected = match &original {
         Ok(envelope) => positions(frame, envelope),
-        Err(error) => EnvelopeRead {
-            told: codec_told(error),
-            ..EnvelopeRead::default()
-        },
+        Err(told) => EnvelopeRead::refusing(*told),
     };
     agree(&sys::decode_envelope(frame), &expected, &inputs)?;
     agree(&sys::read_envelope(frame), &expected, || {
@@ -156,8 +171,8 @@ fn decoded_as(frame: &[u8], inputs: impl Fn() -> String) -> Check {
     })?;
     let port = cuwelfra::Envelope::decode(frame);
     let same = match (&port, &original) {
-        (Ok(port), Ok(original)) => same_parts(port, original),
-        (Err(refusal), Err(error)) => refusal.told() == codec_told(error),
+        (Ok(port), Ok(original)) => same_parts(port, original) && original.encode() == frame,
+        (Err(refusal), Err(told)) => refusal.told() == *told,
         _ => false,
     };
     agree(&same, &true, || format!("{}, its parts", inputs()))

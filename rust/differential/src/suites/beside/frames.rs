@@ -1,13 +1,15 @@
 //! Messages inside envelopes, beside the original's `Envelope` and `BinaryCodec`: whole, cut at every length, padded, each
-//! byte replaced, and bodies whose sizes reach into the signature behind them.
+//! byte replaced, each number overlong, and bodies whose sizes reach into the signature behind them.
 
 use cuwelfra::ActorId;
 use cuwelfra_sys::{self as sys, FrameTold};
 use oracle::stubs;
 use oracle::sync::Envelope;
 
-use crate::model::messages::{bytes, frame_call, numbers, put, read_envelope, read_message};
-use crate::model::messages::{Answer, BODY, ENVELOPE};
+use crate::census::Forms;
+use crate::leb128::{put, OVERLONG};
+use crate::model::messages::{bytes, frame_call, numbers, read_envelope, read_message};
+use crate::model::messages::{Answer, Field, Message, BODY, ENVELOPE};
 use crate::original::codec_told;
 use crate::original::messages::Alone;
 use crate::port::area::BYTES;
@@ -17,11 +19,14 @@ use crate::readings::Readings;
 use crate::rng::Rng;
 use crate::support::{agree, each_replaced, note, Check, Outcome};
 use crate::world::messages::{body, delta, frame, largest, message, sizes};
+use crate::world::pieces;
 
 const STRUCTURED: usize = 1_500_000;
 const REACHING: usize = 200_000;
 const CUT: usize = 1_500;
 const REPLACED: usize = 120;
+/// Messages of which each number alone, or that of their envelope, is longer than it needs to be.
+const LONGER: usize = 200;
 
 pub fn run(rng: &mut Rng) -> Outcome {
     let mut beside = Beside::new();
@@ -44,6 +49,10 @@ pub fn run(rng: &mut Rng) -> Outcome {
         let sig = rng.below(6);
         let frame = whole(rng, &body, sig);
         each_replaced(frame, |frame| beside.read(frame, false))?;
+    }
+    for _ in 0..LONGER {
+        let message = message(rng);
+        beside.longer(rng, &message)?;
     }
     for sig in [1_023, 1_024, 1_025, 5_000] {
         for _ in 0..50 {
@@ -101,6 +110,8 @@ struct Beside {
     lent: Lent,
     readings: Readings,
     alone: Alone,
+    /// Envelopes, whatever is in their bodies.
+    envelopes: Forms,
     /// Frames whose body has a size above its bytes and not above the frame's.
     reached: u64,
 }
@@ -111,6 +122,7 @@ impl Beside {
             lent: Lent::new(),
             readings: Readings::default(),
             alone: Alone::default(),
+            envelopes: Forms::default(),
             reached: 0,
         }
     }
@@ -138,12 +150,18 @@ impl Beside {
         Ok(())
     }
 
-    /// Requires that the original reads the envelope as the model does, and then the body. Gives tag and number of a
-    /// message that was read.
+    /// Requires that the original reads the envelope as the model does, unless a number of it is overlong, and then the
+    /// body. Gives tag and number of a message that was read.
     fn judge(&mut self, frame: &[u8]) -> Result<(u64, u64), String> {
+        let ours = read_envelope(frame);
+        let overlong = ours.is_err_and(|fault| fault.is_overlong());
+        self.envelopes.note(overlong);
+        if overlong {
+            return Ok((0, 0));
+        }
         let theirs = Envelope::decode(frame);
         let inputs = || format!("the model's envelope beside the original's on {frame:02x?}");
-        match (read_envelope(frame), theirs) {
+        match (ours, theirs) {
             (Ok(read), Ok(envelope)) => {
                 let part = |at: u64, len: u64| &frame[at as usize..][..len as usize];
                 let ours = (
@@ -184,6 +202,26 @@ impl Beside {
         self.read(&whole(rng, &body, sig), true)
     }
 
+    /// Each number of the envelope and of the message alone in more bytes than it needs.
+    fn longer(&mut self, rng: &mut Rng, message: &Message) -> Check {
+        let sig = rng.bytes(3);
+        let envelope = pieces::envelope(rng.edge(), &bytes(message), &sig);
+        pieces::each_longer(&envelope, |frame, field, refusal| {
+            self.refused(frame, (refusal, field))
+        })?;
+        pieces::each_longer(&pieces::message(message), |body, field, refusal| {
+            self.refused(&whole(rng, body, 3), (refusal, field))
+        })
+    }
+
+    /// Requires that this number refuses at this field, and the rest as always.
+    fn refused(&mut self, frame: &[u8], wanted: (u64, Field)) -> Check {
+        let fault = frame_call(frame, BYTES, 0).fault;
+        let fault = fault.map(|fault| (fault.told.number, fault.field));
+        agree(&fault, &Some(wanted), || format!("{frame:02x?}"))?;
+        self.read(frame, true)
+    }
+
     /// Bodies around the longest that an envelope has; their tag is none.
     fn longest_bodies(&mut self) -> Check {
         for len in [(1 << 24) - 1, 1 << 24, (1 << 24) + 1] {
@@ -200,7 +238,8 @@ impl Beside {
     }
 
     fn finish(&self) -> Outcome {
-        note(&format!("frames: {}", self.alone.finish()?));
+        self.envelopes.finish("frames, the envelope", OVERLONG)?;
+        note(&format!("frames, the message: {}", self.alone.finish()?));
         let reached = self.reached;
         note(&format!(
             "frames: {reached} bodies with a size above the body's bytes and not above the frame's"

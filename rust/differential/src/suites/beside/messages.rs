@@ -1,9 +1,9 @@
 //! Message bodies beside the original's `BinaryCodec`: every one of up to three bytes, bodies of our own writing, damaged
-//! ones, sizes around every limit; and messages that are written, and read back by both.
+//! ones, sizes around every limit, each number overlong; and messages that are written, and read back by both.
 
 use cuwelfra_sys as sys;
 
-use crate::model::messages::{bytes, message_call, numbers, read_message, Message, BODY};
+use crate::model::messages::{bytes, message_call, numbers, read_message, Field, Message, BODY};
 use crate::original::messages::{decoded, encoded, Alone};
 use crate::port::area::{self, BYTES};
 use crate::port::messages::{slots_asked, wrapped_message, Lent};
@@ -12,12 +12,15 @@ use crate::readings::Readings;
 use crate::rng::Rng;
 use crate::support::{agree, each_replaced, note, same_write, Check, Outcome};
 use crate::world::messages::{body, delta, largest, message, sizes};
+use crate::world::pieces;
 
 const STRUCTURED: usize = 2_000_000;
 const WRITTEN: usize = 60_000;
 /// Messages that are cut at every length and padded, and small ones of which each byte is replaced by every other.
 const CUT: usize = 2_000;
 const REPLACED: usize = 150;
+/// Messages of which each number alone is longer than it needs to be.
+const LONGER: usize = 600;
 
 pub fn run(rng: &mut Rng) -> Outcome {
     let mut beside = Beside::new();
@@ -47,6 +50,12 @@ pub fn run(rng: &mut Rng) -> Outcome {
         each_replaced(body, |body| beside.read(body, false))?;
     }
     sizes(rng, |body| beside.read(body, false))?;
+    for _ in 0..LONGER {
+        let pieces = pieces::message(&message(rng));
+        pieces::each_longer(&pieces, |body, field, refusal| {
+            beside.refused(body, (refusal, field))
+        })?;
+    }
     for _ in 0..WRITTEN {
         let message = message(rng);
         beside.written(&message)?;
@@ -81,7 +90,7 @@ const HEAD: [u8; 5] = [0, 0, 1, 1, 1];
 fn small(beside: &mut Beside) -> Check {
     let pairs = |authors: u8| -> Vec<u8> { (1..=authors).flat_map(|a| [a, 1]).collect() };
     let row = |rest: &[&[u8]]| [&[1, 1][..], &HEAD, &rest.concat()].concat();
-    let bodies: [(Vec<u8>, u64, u64); 22] = [
+    let bodies: [(Vec<u8>, u64, u64); 27] = [
         // An entry of 0, authors that fall, an author twice.
         (vec![0, 1, 1, 0], 0, 0),
         (vec![0, 2, 5, 1, 3, 2], 0, 0),
@@ -110,6 +119,12 @@ fn small(beside: &mut Beside) -> Check {
         (vec![7], 29, 29),
         (vec![0x80, 0], 29, 29),
         (vec![], 22, 22),
+        // Overlong: a nonce, a count above the bytes left, 65 rows, a payload of 257 bytes, a counter of 2^32.
+        (vec![4, 0x80, 0], 30, 0),
+        (vec![0, 0x81, 0], 30, 24),
+        ([&[1, 0xc1, 0][..], &[0; 65 * 8]].concat(), 30, 0),
+        (row(&[&[0, 0x81, 0x82, 0], &[7; 257], &[0]]), 30, 0),
+        (vec![1, 1, 0, 0x80, 0x80, 0x80, 0x80, 0x90, 0], 23, 23),
     ];
     for (body, here, there) in bodies {
         let (read, _) = read_message(&body);
@@ -126,6 +141,8 @@ struct Beside {
     readings: Readings,
     alone: Alone,
     writes: u64,
+    /// Bodies that were read and are what the original writes of their message.
+    spelled: u64,
 }
 
 impl Beside {
@@ -135,13 +152,19 @@ impl Beside {
             readings: Readings::default(),
             alone: Alone::default(),
             writes: 0,
+            spelled: 0,
         }
     }
 
     /// The model, the original and the port on one body; the wrapper too where it is wanted.
     fn read(&mut self, body: &[u8], wrapped: bool) -> Check {
-        let (read, _) = read_message(body);
+        let (read, met) = read_message(body);
         self.alone.judge(body, &read)?;
+        if let (Ok(message), true) = (&read, met.rose()) {
+            let written = bytes(message);
+            agree(&&written[..], &body, || format!("{message:02x?}, its spelling"))?;
+            self.spelled += 1;
+        }
         let (tag, number) = read.as_ref().map_or((0, 0), numbers);
         let slots = match tag {
             1 => number as usize + 1,
@@ -160,6 +183,14 @@ impl Beside {
             agree(&read, &wanted, || format!("the wrapper's {}", inputs()))?;
         }
         Ok(())
+    }
+
+    /// The same, where this number refuses at this field.
+    fn refused(&mut self, body: &[u8], wanted: (u64, Field)) -> Check {
+        let (read, _) = read_message(body);
+        let fault = read.map_err(|fault| (fault.told.number, fault.field));
+        agree(&fault, &Err(wanted), || format!("{body:02x?}"))?;
+        self.read(body, true)
     }
 
     /// No byte, every tag, and up to two bytes behind every tag.
@@ -224,6 +255,11 @@ impl Beside {
 
     fn finish(&self) -> Outcome {
         note(&format!("messages: {}", self.alone.finish()?));
+        let spelled = self.spelled;
+        note(&format!(
+            "messages: {spelled} bodies that were read are what their message is written as; in the others authors do not rise"
+        ));
+        agree(&(spelled > 0), &true, || "bodies in their one spelling".into())?;
         self.readings.finish("messages", &BODY)?;
         Ok(self.readings.cases() + self.writes)
     }

@@ -1,5 +1,5 @@
-//! Batch rows with faults, read by the first of them, in overlong varints too, and how the original reads them; and
-//! slots that break a rule.
+//! Batch rows with faults, read by the first of them, and how the original reads them where no number is overlong; and slots
+//! that break a rule.
 
 use std::collections::BTreeMap;
 
@@ -7,36 +7,57 @@ use cuwelfra::Slot as WrappedSlot;
 use cuwelfra_sys::{self as sys, Told, Written};
 use oracle::open::Reader;
 
-use crate::original;
+use crate::census::Forms;
+use crate::leb128::{lengthen, put};
 use crate::original::beside::row as row_of;
-use crate::original::faults::{judged, Fault, Kind};
+use crate::original::codec_told;
+use crate::original::faults::{judged, Fault, Kind, NOT_ASKED};
 use crate::port::area::{set_word, word};
+use crate::port::batches::BatchRow;
 use crate::port::rows::{self, Held, Row, Slot, SLOT};
 use crate::rng::Rng;
 use crate::suites::beside::row_bytes::{same_read, signed};
 use crate::support::{agree, note, pattern, refused, Check, Outcome};
-use crate::world::large_row;
+use crate::world::{large_row, pieces};
 
 const FAULTS: u64 = 300_000;
+/// Rows of which each number alone is longer than it needs to be.
+const LONGER: u64 = 200;
+/// Rows written by hand.
+const SMALL: u64 = 15;
 const SLOTS: u64 = 200_000;
 
 pub fn run(rng: &mut Rng) -> Outcome {
     zero_dependency(rng)?;
-    let cases = small(rng)?;
-    let mut kinds = BTreeMap::new();
+    small(rng)?;
+    let mut kinds = Kinds::new();
+    let mut forms = Forms::default();
+    let mut row = |rng: &mut Rng, batch: &[u8]| -> Check {
+        let kind = same_row(rng, batch)?;
+        forms.note(kind.there == NOT_ASKED);
+        *kinds.entry(kind).or_insert(0) += 1;
+        Ok(())
+    };
     for _ in 0..FAULTS {
         let batch = faulty(rng);
-        *kinds.entry(same_row(rng, &batch)?).or_insert(0) += 1;
+        row(rng, &batch)?;
+    }
+    for _ in 0..LONGER {
+        let lent = BatchRow::new(large_row(rng));
+        pieces::each_longer(&pieces::batch_row(&lent), |batch, _, _| row(rng, batch))?;
     }
     listed(&kinds)?;
+    forms.finish("row-faults", 3)?;
     for _ in 0..SLOTS {
         damaged_slot(rng)?;
     }
-    Ok(1 + cases + FAULTS + SLOTS)
+    Ok(1 + SMALL + forms.cases() + SLOTS)
 }
 
+type Kinds = BTreeMap<Kind, u64>;
+
 /// Prints how often each pair of answers came up. Requires that no pair of `PAIRS` lacks.
-fn listed(kinds: &BTreeMap<Kind, u64>) -> Check {
+fn listed(kinds: &Kinds) -> Check {
     let counts = kinds.iter().map(|(kind, count)| format!("{kind} {count}"));
     note(&format!(
         "row-faults: {}",
@@ -58,21 +79,17 @@ fn listed(kinds: &BTreeMap<Kind, u64>) -> Check {
 
 /// Which answers of the original come beside each of ours; where a row is read by one alone, the reading goes on, and
 /// may end in any way.
-const PAIRS: [(Option<Fault>, &[Option<&str>]); 7] = [
-    (None, &[None]),
-    (Some(Fault::CutShort), &[None, Some("Truncated")]),
-    (Some(Fault::TooWide), &[Some("VarintOverflow")]),
-    (Some(Fault::AboveRest), &[Some("TooLarge")]),
+const PAIRS: [(Option<Fault>, &[&str]); 8] = [
+    (None, &["read"]),
+    (Some(Fault::CutShort), &["read", "Truncated"]),
+    (Some(Fault::TooWide), &["VarintOverflow"]),
+    (Some(Fault::Overlong), &[NOT_ASKED]),
+    (Some(Fault::AboveRest), &["TooLarge"]),
     (Some(Fault::NotRising), &ANY),
-    (Some(Fault::Closing), &[None]),
+    (Some(Fault::Closing), &["read"]),
     (Some(Fault::OverCapacity), &ANY),
 ];
-const ANY: [Option<&str>; 4] = [
-    None,
-    Some("Truncated"),
-    Some("VarintOverflow"),
-    Some("TooLarge"),
-];
+const ANY: [&str; 4] = ["read", "Truncated", "VarintOverflow", "TooLarge"];
 
 /// The start of a small row: wall time 0, counter 0, stamp author, author and sequence 1.
 const HEAD: [u8; 5] = [0, 0, 1, 1, 1];
@@ -81,9 +98,9 @@ const CLOSING: [u8; 5] = [0, 0, 1, 0, 0];
 
 /// Small rows whose answers differ in kind, as docs/DIFFERENCES.md has them: the number here, 0 for none, and the
 /// original's answer.
-fn small(rng: &mut Rng) -> Outcome {
+fn small(rng: &mut Rng) -> Check {
     let causes: Vec<u8> = (1..=17).flat_map(|author| [author, 1]).collect();
-    let rows: [(Vec<u8>, u64, &str); 10] = [
+    let rows: [(Vec<u8>, u64, &str); SMALL as usize] = [
         ([&HEAD[..], &[1, 1, 0], &CLOSING].concat(), 0, "read"),
         ([&HEAD[..], &[2, 2, 1, 1, 1], &CLOSING].concat(), 3, "read"),
         ([&HEAD[..], &[2, 2, 1, 1, 1]].concat(), 3, "Truncated"),
@@ -98,16 +115,32 @@ fn small(rng: &mut Rng) -> Outcome {
             "read",
         ),
         ([&HEAD[..], &[0, 0x81, 0x80, 0x40]].concat(), 4, "TooLarge"),
+        // Overlong: the wall time, 300 bytes of payload.
+        ([&[0x80, 0], &HEAD[1..], &[0], &CLOSING].concat(), 3, NOT_ASKED),
+        (
+            [&HEAD[..], &[0, 0xac, 0x82, 0], &[7; 300], &CLOSING[1..]].concat(),
+            3,
+            NOT_ASKED,
+        ),
+        // A fault before an overlong number: a count above the bytes left, a falling author, 17 dependencies.
+        ([&HEAD[..], &[5, 0x80, 0]].concat(), 3, "TooLarge"),
+        (
+            [&HEAD[..], &[3, 2, 1, 1, 1, 0x83, 0, 1], &CLOSING].concat(),
+            3,
+            "read",
+        ),
+        (
+            [&HEAD[..], &[17], &causes, &[0x80, 0], &CLOSING[1..]].concat(),
+            4,
+            "read",
+        ),
     ];
     for (bytes, number, original) in &rows {
         let kind = same_row(rng, bytes)?;
-        let answers = (
-            kind.here.map_or(0, Fault::number),
-            kind.there.unwrap_or("read"),
-        );
+        let answers = (kind.here.map_or(0, Fault::number), kind.there);
         agree(&answers, &(*number, *original), || format!("{bytes:02x?}"))?;
     }
-    Ok(rows.len() as u64)
+    Ok(())
 }
 
 /// A row that depends on {1: 0}: both write it alike; the original reads it back without, the port with.
@@ -137,11 +170,18 @@ fn zero_dependency(rng: &mut Rng) -> Check {
     same_read(rng, &batch, 0, Ok((&Held::logged(row), 1, batch.len())))
 }
 
-/// A batch row of our own writing: overlong varints, sizes beyond capacity, authors that do not rise, wrong closing
+/// A batch row of our own writing: overlong varints in a few, sizes beyond capacity, authors that do not rise, wrong closing
 /// bytes; then cut, padded or changed.
 pub fn faulty(rng: &mut Rng) -> Vec<u8> {
     let row = large_row(rng);
     let mut batch = Vec::new();
+    let pads = rng.pick(&[0, 0, 0, 6, 24]);
+    let varint = |rng: &mut Rng, batch: &mut Vec<u8>, number| {
+        put(batch, number);
+        if pads > 0 && rng.once_in(pads) {
+            lengthen(batch, rng.pick(&[1, 1, 2, 5, 9, 10]));
+        }
+    };
     let counter = match rng.below(12) {
         0 => (1 << 32) + rng.next() % 2,
         1 => u64::from(u32::MAX),
@@ -198,17 +238,22 @@ pub fn faulty(rng: &mut Rng) -> Vec<u8> {
     batch
 }
 
-/// Requires that the bytes are read or refused here as document 01 says, and there as the original's rules are. Gives
-/// both answers' kinds.
+/// Requires that the bytes are read or refused here as the documents say, and there, where the original is asked, as its
+/// rules are; and that a row that is read is the bytes that the original writes. Gives both answers' kinds.
 pub fn same_row(rng: &mut Rng, batch: &[u8]) -> Result<Kind, String> {
     let judged = judged(batch);
     let wanted = judged.here.as_ref();
     let wanted = wanted.map(|(held, verdict, next)| (held, *verdict, *next));
     same_read(rng, batch, 0, wanted.map_err(|fault| fault.number()))?;
-    let there = Reader::new(batch).signed_op().map(|op| row_of(&op));
-    agree(&there, &judged.there, || {
-        format!("the original on {batch:02x?}")
-    })?;
+    let inputs = || format!("the original on {batch:02x?}");
+    if let Some(wanted) = &judged.there {
+        let there = Reader::new(batch).signed_op().map(|op| row_of(&op));
+        let there = there.map_err(|error| codec_told(&error).number);
+        agree(&there, wanted, inputs)?;
+    }
+    if let Ok((held, _, next)) = wanted {
+        agree(&&signed(&held.row)[..], &&batch[..next - 3], inputs)?;
+    }
     Ok(judged.kind())
 }
 
@@ -231,21 +276,6 @@ fn spoil(rng: &mut Rng, deps: &mut [(u64, u64)]) {
         deps.swap(i, i + 1);
     } else {
         deps[i + 1].0 = deps[i].0;
-    }
-}
-
-/// A varint, one in six padded to up to eleven bytes.
-fn varint(rng: &mut Rng, batch: &mut Vec<u8>, number: u64) {
-    batch.extend(original::written(|w| w.varint(number)));
-    if rng.once_in(6) {
-        for _ in 0..rng.pick(&[1, 1, 2, 5, 9, 10]) {
-            let last = batch.last_mut().expect("a varint has a byte");
-            if *last == 0 && rng.once_in(4) {
-                break;
-            }
-            *last |= 0x80;
-            batch.push(0);
-        }
     }
 }
 

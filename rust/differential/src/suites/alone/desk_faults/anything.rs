@@ -4,6 +4,7 @@ use cuwelfra_sys::Preparation;
 
 use crate::census::Numbers;
 use crate::model::own::{now, prepare_call, seal_call};
+use crate::model::reading::{read_unsigned, Fault};
 use crate::port::area::{self, BYTES};
 use crate::port::batches::unsigned;
 use crate::port::own::{same_prepare, same_seal, Preparing, Sealing};
@@ -12,7 +13,7 @@ use crate::port::store::{self, same_areas, Areas, Content, HEAD, HELD};
 use crate::port::wrapped::refusal;
 use crate::rng::Rng;
 use crate::suites::alone::damaged_stores::sound;
-use crate::support::{agree, Check, Outcome};
+use crate::support::{agree, note, refused, Check, Outcome};
 use crate::world::strange::{damaged, unreadable};
 use crate::world::World;
 
@@ -24,9 +25,14 @@ pub fn run(rng: &mut Rng) -> Outcome {
     for _ in 0..PREPARINGS {
         preparing(rng, &mut prepared)?;
     }
+    let mut overlong = 0;
     for _ in 0..SEALINGS {
-        sealing(rng, &mut sealed)?;
+        overlong += u64::from(sealing(rng, &mut sealed)?);
     }
+    note(&format!(
+        "desk-faults, sealing: bytes with an overlong number, refused with 3: {overlong}"
+    ));
+    agree(&(overlong > 0), &true, || "an overlong number to seal".into())?;
     let preparings = prepared.finish("desk-faults, preparing", &[0, 1, 2, 19, 26, 27])?;
     let numbers = [0, 1, 2, 3, 4, 5, 6, 17, 18, 28];
     Ok(preparings + sealed.finish("desk-faults, sealing", &numbers)?)
@@ -99,7 +105,8 @@ fn clock(rng: &mut Rng, author: u64) -> Vec<u8> {
     clock
 }
 
-fn sealing(rng: &mut Rng, numbers: &mut Numbers) -> Check {
+/// Gives whether 3 refuses the bytes for an overlong number.
+fn sealing(rng: &mut Rng, numbers: &mut Numbers) -> Result<bool, String> {
     let (mut areas, author) = match rng.below(20) {
         0 => marked(rng),
         _ => {
@@ -142,9 +149,11 @@ fn sealing(rng: &mut Rng, numbers: &mut Numbers) -> Check {
     if rng.once_in(8) {
         let sealed = areas.wrapped(|store| store.seal(&lent.bytes, &lent.signature));
         agree(&refusal(sealed), &told, inputs)?;
-        return same_areas(&areas, &wanted, inputs);
+        same_areas(&areas, &wanted, inputs)?;
+    } else {
+        same_seal(&mut areas, &lent, told, &wanted, inputs)?;
     }
-    same_seal(&mut areas, &lent, told, &wanted, inputs)
+    Ok(told == refused(3) && read_unsigned(&lent.bytes) == Err(Fault::Overlong))
 }
 
 /// 32 authors with a watermark, some with a row of sequence 0, and one more author or one of them.

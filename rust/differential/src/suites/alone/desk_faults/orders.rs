@@ -3,13 +3,15 @@
 
 use cuwelfra_sys::{Preparation, Told};
 
+use crate::leb128::longer;
+use crate::model::messages::Field;
 use crate::model::own::{prepare_call, seal_call};
 use crate::port::area::{self, set_word, BYTES};
-use crate::port::batches::{put_varint, unsigned};
 use crate::port::own::{same_prepare, same_seal, Preparing, Sealing};
 use crate::port::rows::{Row, DEPS, PAYLOAD, SIGNATURE, SLOT};
 use crate::port::store::{Areas, Content, FLOOR, HEAD, HELD};
 use crate::support::{agree, note, Check, Outcome};
+use crate::world::pieces::{self, Piece};
 
 /// The refusal, and what brings it about.
 type Fault<T> = (u64, fn(&mut T));
@@ -35,6 +37,8 @@ const PREPARING: [Fault<Preparing>; 7] = [
 struct Making {
     row: Row,
     counter: u64,
+    /// Whether the payload's length is in a byte more than it needs.
+    overlong: bool,
     left_over: usize,
     signature: usize,
     content: Content,
@@ -46,7 +50,7 @@ struct Making {
 
 /// 02: "In sealing, 5 and 6 come after 4; 28 when the row's dependencies are not the log's clock, pair for pair, after 6,
 /// before 17."
-const SEALING: [Fault<Making>; 15] = [
+const SEALING: [Fault<Making>; 16] = [
     (2, |of| of.short = Some(0)),
     (2, |of| of.short = Some(1)),
     (2, |of| of.short = Some(2)),
@@ -56,6 +60,7 @@ const SEALING: [Fault<Making>; 15] = [
         of.row.deps = (0..=DEPS as u64).map(|author| (author, 1)).collect()
     }),
     (3, |of| of.row.deps = vec![(2, 1), (1, 1)]),
+    (3, |of| of.overlong = true),
     (4, |of| of.row.payload = vec![1; PAYLOAD + 1]),
     (3, |of| of.left_over = 1),
     (4, |of| of.signature = SIGNATURE + 1),
@@ -136,20 +141,33 @@ fn sealing(chosen: usize) -> Check {
         Some(_) => areas.head.truncate(HEAD - 1),
         None => {}
     }
-    // The wall time is a varint of one byte, and so is the counter before it is another.
-    let row = unsigned(&of.row);
-    let mut bytes = vec![row[0]];
-    put_varint(&mut bytes, of.counter);
-    bytes.extend(&row[2..]);
-    bytes.extend(vec![0; of.left_over]);
     let lent = Sealing {
-        bytes,
+        bytes: of.bytes(),
         signature: vec![2; of.signature],
     };
     let inputs = || format!("the faults {chosen:#b}, {lent:02x?}");
     let (told, wanted) = seal_call(&areas, &lent);
     agree(&told.number, &number, || format!("the model, {}", inputs()))?;
     same_seal(&mut areas, &lent, told, &wanted, inputs)
+}
+
+impl Making {
+    /// What is to be sealed.
+    fn bytes(&self) -> Vec<u8> {
+        let mut row = pieces::unsigned(&self.row);
+        for piece in &mut row {
+            match piece {
+                Piece::Number(Field::Counter, counter) => *counter = self.counter,
+                Piece::Number(Field::Payload, len) if self.overlong => {
+                    *piece = Piece::Bytes(longer(*len, 1));
+                }
+                _ => {}
+            }
+        }
+        let mut bytes = pieces::whole(&row);
+        bytes.extend(vec![0; self.left_over]);
+        bytes
+    }
 }
 
 /// Author 40's first row above a log of one row, with room for one more.
@@ -165,6 +183,7 @@ fn sound() -> Making {
     Making {
         row: row(40, &[(1, 1)]),
         counter: 0,
+        overlong: false,
         left_over: 0,
         signature: SIGNATURE,
         content: Content {

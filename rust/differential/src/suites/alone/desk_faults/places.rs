@@ -10,10 +10,14 @@ use crate::port::own::{prepare, same_prepare, same_seal, seal, Preparing, Sealin
 use crate::port::rows::{Row, DEPS, PAYLOAD, SIGNATURE, SLOT};
 use crate::port::store::{Areas, HEAD, HELD};
 use crate::rng::Rng;
-use crate::support::{accepted, agree, refused, Check, Outcome};
+use crate::support::{accepted, agree, note, refused, Check, Outcome};
+use crate::world::{large_row, pieces};
+
+/// Rows of which each number alone is longer than it needs to be.
+const LONGER: usize = 20;
 
 pub fn run(rng: &mut Rng) -> Outcome {
-    let cases = clock_areas()? + outputs(rng)? + stores(rng)? + signatures()?;
+    let cases = clock_areas()? + outputs(rng)? + stores(rng)? + signatures()? + longer(rng)?;
     full_places()?;
     beside_held_rows()?;
     twice()?;
@@ -145,8 +149,12 @@ fn stores(rng: &mut Rng) -> Outcome {
 
 /// Seals a row and requires this number, of the model too.
 fn sealing(areas: &mut Areas, row: &Row, signature: usize, number: u64) -> Check {
+    sealing_bytes(areas, &unsigned(row), signature, number)
+}
+
+fn sealing_bytes(areas: &mut Areas, bytes: &[u8], signature: usize, number: u64) -> Check {
     let lent = Sealing {
-        bytes: unsigned(row),
+        bytes: bytes.to_vec(),
         signature: vec![7; signature],
     };
     let inputs = || format!("{lent:02x?}");
@@ -163,6 +171,20 @@ fn signatures() -> Outcome {
         sealing(&mut Areas::new(1, 0), &row(7, 1).row, len, 4)?;
     }
     Ok(7)
+}
+
+/// Each number of the bytes to seal alone in more bytes than it needs: 3, whatever else a row has.
+fn longer(rng: &mut Rng) -> Outcome {
+    let mut cases = 0;
+    for _ in 0..LONGER {
+        let pieces = pieces::unsigned(&large_row(rng));
+        pieces::each_longer(&pieces, |bytes, _, _| {
+            cases += 1;
+            sealing_bytes(&mut Areas::new(1, 0), bytes, 0, 3)
+        })?;
+    }
+    note(&format!("desk-faults: numbers of rows to seal that are longer, refused with 3: {cases}"));
+    Ok(cases)
 }
 
 /// 17 where the log is full, also where the watermarks are; 18 from the watermarks alone.

@@ -8,13 +8,18 @@ pub fn by_value() -> Check {
     let mut desk = Desk::new(8);
     let held = row(1, 2).needs(2, 0);
     says(desk.offer([held.clone()]), "held 1")?;
-    let mut lent = desk.lent(&[held]);
-    // The dependency's number, 00, as 80 00; also the wall time 2 as 82 00.
+    let lent = desk.lent(&[held]);
+    says(desk.call(&lent), "held 1; duplicates 1")?;
     let start: &[u8] = &[1, 2, 0, 1, 1, 2, 1, 2, 0];
     agree(&&lent.batch[..9], &start, String::new)?;
-    lent.batch.splice(8..9, [0x80, 0]);
-    lent.batch.splice(1..2, [0x82, 0]);
-    says(desk.call(&lent), "held 1; duplicates 1")
+    // The dependency's number, 00, as 80 00; the wall time, 02, as 82 00; the count, 01, as 81 00.
+    for (at, longer) in [(8, [0x80, 0]), (1, [0x82, 0]), (0, [0x81, 0])] {
+        let mut lent = lent.clone();
+        lent.batch.splice(at..at + 1, longer);
+        says(desk.call(&lent), "refused 3")?;
+        says(desk.held(), "1:2")?;
+    }
+    Ok(())
 }
 
 pub fn conflicts() -> Check {

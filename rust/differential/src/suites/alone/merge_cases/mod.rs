@@ -29,7 +29,10 @@ const CASES: &[(&str, Case)] = &[
     ("held rows stand by stamp, author, sequence", order::held),
     ("stale rows are logged", fates::stale),
     ("a floor never falls, and none is not 0/0/0", fates::floors),
-    ("rows are compared by value", content::by_value),
+    (
+        "rows are compared by value, and a number has one spelling",
+        content::by_value,
+    ),
     (
         "other content is 13, a zero dependency too",
         content::conflicts,

@@ -1,4 +1,4 @@
-//! 29, and the refusals that messages share with other calls.
+//! 29, and the refusals that messages share with other calls, 30 among them.
 
 use cuwelfra_sys::{self as sys, Told};
 
@@ -41,6 +41,13 @@ pub const PROVOCATIONS: &[Provocation] = &[
     ("an empty body", [22, 0, 0], || framed(&[])),
     ("a counter of 33 bits", [23, 0, 0], || {
         decoded(&[1, 1, 0, 0x80, 0x80, 0x80, 0x80, 0x10])
+    }),
+    ("that in a byte more than it needs", [23, 0, 0], || {
+        decoded(&[1, 1, 0, 0x80, 0x80, 0x80, 0x80, 0x90, 0])
+    }),
+    ("an overlong nonce", [30, 0, 0], || decoded(&[3, 0x80, 0])),
+    ("33 entries, counted in two bytes", [30, 0, 0], || {
+        framed(&[&[0, 0xa1, 0][..], &[1; 66]].concat())
     }),
     ("33 entries in 32 bytes", [24, 0, 0], || {
         framed(&[&[0, 33][..], &[1; 32]].concat())

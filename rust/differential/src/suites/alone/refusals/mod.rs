@@ -14,7 +14,7 @@ use crate::rng::Rng;
 use crate::support::{agree, note, Check, Outcome};
 
 /// Document 01's numbers, and document 02's from 26 on.
-const LAST: usize = 29;
+const LAST: usize = 30;
 
 /// What is wrong, the answer that the documents give it (number and two values, 0 where it carries none), and the call.
 type Provocation = (&'static str, [u64; 3], fn() -> Told);
@@ -67,7 +67,7 @@ fn comes_through(told: Told) -> Check {
     Ok(())
 }
 
-/// How many values each of the refusals 1 to 29 carries.
+/// How many values each of the refusals 1 to 30 carries.
 fn values(number: u64) -> usize {
     match number {
         5..=13 | 16 | 20 => 2,
@@ -94,7 +94,7 @@ fn mapped(rng: &mut Rng) -> Outcome {
         comes_through(told)?;
         cases += 1;
     }
-    for number in [30, Refusal::MISFIT - 1] {
+    for number in [LAST as u64 + 1, Refusal::MISFIT - 1] {
         let told = Told {
             number,
             ..Told::default()

@@ -1,4 +1,4 @@
-//! 18 to 25: clocks, peers, varints, readers and envelopes.
+//! 18 to 25 and 30: clocks, peers, varints, readers and envelopes.
 
 use cuwelfra_sys as sys;
 
@@ -59,6 +59,36 @@ pub const PROVOCATIONS: &[Provocation] = &[
     ("2^32 as a number of 32 bits", [23, 0, 0], || {
         sys::get_u32(&[0x80, 0x80, 0x80, 0x80, 0x10], 0).told
     }),
+    ("that in a byte more than it needs", [23, 0, 0], || {
+        sys::get_u32(&[0x80, 0x80, 0x80, 0x80, 0x90, 0], 0).told
+    }),
+    ("80 00", [30, 0, 0], || sys::get_varint(&[0x80, 0], 0).told),
+    ("2 in three bytes", [30, 0, 0], || {
+        sys::get_varint(&[7, 0x82, 0x80, 0], 1).told
+    }),
+    ("0 in ten bytes", [30, 0, 0], || {
+        sys::get_varint(&[&[0x80; 9][..], &[0]].concat(), 0).told
+    }),
+    ("1 in two bytes as a number of 32 bits", [30, 0, 0], || {
+        sys::get_u32(&[0x81, 0], 0).told
+    }),
+    ("five in two bytes, above four", [30, 0, 0], || {
+        sys::get_count(&[0x85, 0, 5, 5, 5, 5, 5], 0, 4).told
+    }),
+    ("an overlong length above the bytes left", [30, 0, 0], || {
+        sys::get_bytes(&[0x85, 0], 0, 9).told
+    }),
+    ("an envelope's sender in two bytes", [30, 0, 0], || {
+        sys::decode_envelope(&[0x87, 0, 0, 0]).told
+    }),
+    ("an envelope's body length in two bytes", [30, 0, 0], || {
+        sys::decode_envelope(&[7, 0x80, 0, 0]).told
+    }),
+    (
+        "an envelope's signature length in three bytes",
+        [30, 0, 0],
+        || sys::read_envelope(&[7, 0, 0x80, 0x80, 0]).told,
+    ),
     ("five above four", [24, 0, 0], || {
         sys::get_count(&[5; 9], 0, 4).told
     }),

@@ -3,6 +3,7 @@
 use cuwelfra_sys::{self as sys, Preparation, Told};
 
 use super::Provocation;
+use crate::leb128::lengthen_first;
 use crate::port::area::{self, BYTES};
 use crate::port::batches::unsigned;
 use crate::port::desk::{row, Desk};
@@ -58,6 +59,11 @@ pub const PROVOCATIONS: &[Provocation] = &[
     }),
     ("a byte behind those to seal", [3, 0, 0], || {
         let bytes = [unsigned(&row(7, 1).row), vec![0]].concat();
+        seal(&mut Desk::new(1).areas, bytes, 65)
+    }),
+    ("an overlong number to seal", [3, 0, 0], || {
+        let mut bytes = unsigned(&row(7, 1).row);
+        lengthen_first(&mut bytes);
         seal(&mut Desk::new(1).areas, bytes, 65)
     }),
     ("a sealed row of 257 bytes", [4, 0, 0], || {
