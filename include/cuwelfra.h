@@ -513,8 +513,8 @@ cuwelfra_prepared_told cuwelfra_prepare(uint64_t author, uint64_t last_wall, uin
 /* Logs the row of these bytes with its signature, as cuwelfra_insert does: held rows stay, and no fate is told. A batch,
    even one without rows, then logs what waited for it. Save the store, and the number last issued and the hybrid clock
    beside it, before the row goes out: else a crash gives its number to another content.
-   Hand in exactly the bytes of cuwelfra_prepare: another spelling of a number is taken too, and the signature then fails
-   elsewhere.
+   Hand in exactly the bytes of cuwelfra_prepare. The logged row is written out as the bytes that were sealed, so that
+   their signature holds elsewhere: a number in another spelling is 3.
    2 for the store, 1; 3 and 4 by the first fault in bytes, 3 for bytes left over; 4 for a signature above 64 bytes; 5; 6;
    28 where the dependencies are not the store's clock, pair for pair: look whether the row is logged already
    (cuwelfra_lookup), else prepare again; 17, 18. */

@@ -91,8 +91,8 @@ impl Store {
     /// Save the store, and `issued` and the clock beside it, before the row goes out: else a crash gives its number to
     /// another content.
     ///
-    /// Hand in exactly the bytes of [`Store::prepare`]: another spelling of a number is taken too, and the signature then
-    /// fails elsewhere.
+    /// Hand in exactly the bytes of [`Store::prepare`]. The logged row's [`Row::signing_bytes`](crate::Row::signing_bytes)
+    /// are the bytes that were sealed, so that their signature holds elsewhere: a number in another spelling is 3.
     ///
     /// 28 says that the log's clock has moved since. Look first ([`Store::lookup`]): where the row is logged with your
     /// payload, it is done. Else prepare it again.
@@ -465,16 +465,17 @@ mod tests {
     }
 
     #[test]
-    fn another_spelling_is_sealed_and_not_what_was_signed() -> Result<(), Refusal> {
+    fn what_is_sealed_is_what_was_signed() -> Result<(), Refusal> {
         let mut store = store(1, 0)?;
         let prepared = store.prepare(&mut HybridClock::new(OWN), 5, 0, "")?;
         assert_eq!(prepared.bytes[0], 0x05);
         // The wall time in two bytes.
         let spelled = [&[0x85, 0x00], &prepared.bytes[1..]].concat();
-        store.seal(&spelled, [])?;
+        assert_eq!(store.seal(&spelled, []), Err(Refusal::Unreadable));
+        assert_eq!(store.logged_len(), Ok(0));
+        store.seal(&prepared.bytes, [])?;
         let row = store.logged()?.remove(0);
         assert_eq!(row.signing_bytes()?, prepared.bytes);
-        assert_ne!(row.signing_bytes()?, spelled);
         Ok(())
     }
 

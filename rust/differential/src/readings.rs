@@ -135,7 +135,9 @@ impl Readings {
         let refused = self.refused(fields, &mut lacking);
         note(&format!("{suite}: refused at {refused}"));
         let overlong = self.overlong(&mut lacking);
-        note(&format!("{suite}: overlong numbers in bodies, 30: {overlong}"));
+        note(&format!(
+            "{suite}: overlong numbers in bodies, 30: {overlong}"
+        ));
         let bodies: Vec<Field> = fields
             .iter()
             .copied()

@@ -3,9 +3,9 @@
 
 use cuwelfra_sys::{EnvelopeRead, FrameTold, MessageTold, Told};
 
+use crate::leb128::{self, put};
 use crate::port::area::{self, Area};
 use crate::port::rows::{read_logged, Row, SLOT};
-use crate::leb128::{self, put};
 use crate::support::{refused, Refusing};
 
 pub type Pairs = Vec<(u64, u64)>;

@@ -67,7 +67,9 @@ fn same_number(
     agree(&answer, wanted, || format!("the own reader's {}", inputs()))?;
     if let Ok((value, len)) = own {
         let written = original::written(|w| w.varint(value));
-        agree(&&s[at..at + len], &&written[..], || format!("the spelling, {}", inputs()))?;
+        agree(&&s[at..at + len], &&written[..], || {
+            format!("the spelling, {}", inputs())
+        })?;
     }
     Ok(())
 }

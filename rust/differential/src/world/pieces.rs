@@ -118,10 +118,7 @@ pub fn numbers(pieces: &[Piece]) -> impl Iterator<Item = (usize, Field, u64)> + 
 
 /// Hands on the bytes with each number alone in one to ten bytes more than it needs, its field, and what refuses it: 30, or
 /// 23 where it has more than ten bytes.
-pub fn each_longer(
-    pieces: &[Piece],
-    mut each: impl FnMut(&[u8], Field, u64) -> Check,
-) -> Check {
+pub fn each_longer(pieces: &[Piece], mut each: impl FnMut(&[u8], Field, u64) -> Check) -> Check {
     for (at, field, number) in numbers(pieces) {
         for more in 1..=10 {
             let written = longer(number, more);
@@ -169,12 +166,18 @@ mod tests {
     #[test]
     fn each_number_is_longer_once() -> Check {
         let mut met = Vec::new();
-        each_longer(&message(&Message::Hello(vec![(1, 300)])), |body, field, refusal| {
-            met.push((body.to_vec(), field, refusal));
-            Ok(())
-        })?;
+        each_longer(
+            &message(&Message::Hello(vec![(1, 300)])),
+            |body, field, refusal| {
+                met.push((body.to_vec(), field, refusal));
+                Ok(())
+            },
+        )?;
         assert_eq!(met.len(), 30);
-        assert_eq!(met[0], (vec![0, 0x81, 0, 1, 0xac, 2], Field::EntryCount, 30));
+        assert_eq!(
+            met[0],
+            (vec![0, 0x81, 0, 1, 0xac, 2], Field::EntryCount, 30)
+        );
         let [nine, ten] = [&met[28], &met[29]];
         assert_eq!((nine.0.len(), nine.1, nine.2), (14, Field::EntryNumber, 23));
         assert_eq!((ten.0.len(), ten.2), (15, 23));

@@ -4,7 +4,7 @@
 use cuwelfra_sys::{self as sys, Told, Written};
 
 use crate::census::Numbers;
-use crate::leb128::put;
+use crate::leb128::{lengthen_first, put};
 use crate::model::messages::{bytes, clock_body, delta_body, frame_call, message_call, numbers};
 use crate::model::messages::{read_message, Message, AREAS};
 use crate::port::area::{self, Area, BYTES};
@@ -187,7 +187,7 @@ impl Areas {
 
     /// Every set of faults at once, in every call: the first of them answers.
     fn faults_together(&mut self, rng: &mut Rng) -> Check {
-        for faults in 0..16 {
+        for faults in 0..32 {
             let has = |fault: u32| faults >> fault & 1 == 1;
             // Rows short, a slot that is no row's, more than 64, no room.
             let count = if has(2) { 65 } else { 3 };
@@ -196,9 +196,7 @@ impl Areas {
                 let last = slots.len() - SLOT;
                 slots[last + 90] = 1;
             }
-            let wanted = [(0, 2), (1, 1), (2, 4), (3, 2)];
-            let wanted = wanted.into_iter().find(|(fault, _)| has(*fault));
-            let wanted = wanted.map_or(0, |(_, number)| number);
+            let wanted = first(&[(0, 2), (1, 1), (2, 4), (3, 2)], has);
             if has(0) {
                 slots.pop();
             }
@@ -207,14 +205,16 @@ impl Areas {
             let number = sys::encode_delta(&mut vec![0; room], &slots, count)
                 .told
                 .number;
-            let inputs = || format!("encode_delta with faults {faults:04b}");
+            let inputs = || format!("encode_delta with faults {faults:05b}");
             agree(&number, &wanted, inputs)?;
 
-            // A short clock area, a fault of the envelope, one of the body, too few slots.
+            // A short clock area, a fault of the envelope, an overlong count, bytes behind the body, too few slots.
             let mut body = bytes(&delta(rng, 2));
-            let mut wanted = 0;
-            for (fault, number) in [(3, 2), (2, 25), (1, 24), (0, 2)] {
-                wanted = if has(fault) { number } else { wanted };
+            let wanted = first(&[(0, 2), (1, 24), (4, 30), (2, 25), (3, 2)], has);
+            if has(4) {
+                let mut behind = body.split_off(1);
+                lengthen_first(&mut behind);
+                body.extend(behind);
             }
             if has(2) {
                 body.push(0);
@@ -230,12 +230,12 @@ impl Areas {
             self.frame(&frame, lens, (1, 2))?;
             let [mut clock, mut rows] = [vec![0; lens.0], vec![0; lens.1]];
             let told = sys::decode_frame(&frame, &mut clock, &mut rows);
-            let inputs = || format!("decode_frame with faults {faults:04b}");
+            let inputs = || format!("decode_frame with faults {faults:05b}");
             agree(&told.told.number, &wanted, inputs)?;
             if !has(1) {
                 self.read(rng, &body, lens)?;
                 let told = sys::decode_message(&body, &mut clock, &mut rows);
-                let inputs = || format!("decode_message with faults {faults:04b}");
+                let inputs = || format!("decode_message with faults {faults:05b}");
                 agree(&told.told.number, &wanted, inputs)?;
             }
         }
@@ -251,9 +251,7 @@ impl Areas {
             }
             let room = if has(2) { 5 } else { 6 };
             self.clock(&clock, room)?;
-            let wanted = [(0, 2), (1, 1), (2, 2)];
-            let wanted = wanted.into_iter().find(|(fault, _)| has(*fault));
-            let wanted = wanted.map_or(0, |(_, number)| number);
+            let wanted = first(&[(0, 2), (1, 1), (2, 2)], has);
             let number = sys::encode_ack(&mut vec![0; room], &clock).told.number;
             agree(&number, &wanted, || {
                 format!("encode_ack with faults {faults:03b}")
@@ -300,6 +298,12 @@ impl Areas {
         }
         Ok(cases)
     }
+}
+
+/// The number of the first fault that there is, 0 for none.
+fn first(order: &[(u32, u64)], has: impl Fn(u32) -> bool) -> u64 {
+    let fault = order.iter().find(|(fault, _)| has(*fault));
+    fault.map_or(0, |(_, number)| *number)
 }
 
 /// Every room around the bodies of Ping and Pong.

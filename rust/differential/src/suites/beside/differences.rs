@@ -104,7 +104,9 @@ fn overlong() -> Check {
     agree(&told, &refused(30), String::new)?;
     // A row of zeros but for author and sequence, with its wall time in two bytes.
     let row = [0x80, 0, 0, 1, 1, 1, 0, 0, 0];
-    let wall = Reader::new(&row).signed_op().map(|op| op.timestamp.wall_time);
+    let wall = Reader::new(&row)
+        .signed_op()
+        .map(|op| op.timestamp.wall_time);
     agree(&wall, &Ok(0), String::new)?;
     let whole = [&[1][..], &row, &[1, 0, 0]].concat();
     agree(&batch(whole), &refused(3), String::new)

@@ -12,7 +12,9 @@ use crate::leb128::OVERLONG;
 use crate::model::messages;
 use crate::original::codec_told;
 use crate::rng::Rng;
-use crate::support::{agree, each_replaced, pattern, refused, same_write, Check, Outcome, Refusing};
+use crate::support::{
+    agree, each_replaced, pattern, refused, same_write, Check, Outcome, Refusing,
+};
 use crate::world::pieces;
 
 const SMALL: usize = 2_000;
@@ -84,7 +86,9 @@ fn longer(forms: &mut Forms, envelope: &Envelope) -> Check {
     let pieces = pieces::envelope(envelope.sender.0, &envelope.body, &envelope.sig);
     pieces::each_longer(&pieces, |frame, field, refusal| {
         let told = sys::decode_envelope(frame).told;
-        agree(&told, &refused(refusal), || format!("{field:?} in {frame:02x?}"))?;
+        agree(&told, &refused(refusal), || {
+            format!("{field:?} in {frame:02x?}")
+        })?;
         decoded(forms, frame, "longer")
     })
 }

@@ -162,7 +162,9 @@ impl Beside {
         self.alone.judge(body, &read)?;
         if let (Ok(message), true) = (&read, met.rose()) {
             let written = bytes(message);
-            agree(&&written[..], &body, || format!("{message:02x?}, its spelling"))?;
+            agree(&&written[..], &body, || {
+                format!("{message:02x?}, its spelling")
+            })?;
             self.spelled += 1;
         }
         let (tag, number) = read.as_ref().map_or((0, 0), numbers);
@@ -259,7 +261,9 @@ impl Beside {
         note(&format!(
             "messages: {spelled} bodies that were read are what their message is written as; in the others authors do not rise"
         ));
-        agree(&(spelled > 0), &true, || "bodies in their one spelling".into())?;
+        agree(&(spelled > 0), &true, || {
+            "bodies in their one spelling".into()
+        })?;
         self.readings.finish("messages", &BODY)?;
         Ok(self.readings.cases() + self.writes)
     }

@@ -46,7 +46,9 @@ pub fn run(rng: &mut Rng) -> Outcome {
         }
         cases += 1;
     }
-    note(&format!("readers: lists that end at an overlong number {overlong:?}"));
+    note(&format!(
+        "readers: lists that end at an overlong number {overlong:?}"
+    ));
     agree(&overlong.len(), &(KINDS.len() - 1), || {
         "kinds of reads that met an overlong number".into()
     })?;

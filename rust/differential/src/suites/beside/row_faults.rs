@@ -116,7 +116,11 @@ fn small(rng: &mut Rng) -> Check {
         ),
         ([&HEAD[..], &[0, 0x81, 0x80, 0x40]].concat(), 4, "TooLarge"),
         // Overlong: the wall time, 300 bytes of payload.
-        ([&[0x80, 0], &HEAD[1..], &[0], &CLOSING].concat(), 3, NOT_ASKED),
+        (
+            [&[0x80, 0], &HEAD[1..], &[0], &CLOSING].concat(),
+            3,
+            NOT_ASKED,
+        ),
         (
             [&HEAD[..], &[0, 0xac, 0x82, 0], &[7; 300], &CLOSING[1..]].concat(),
             3,

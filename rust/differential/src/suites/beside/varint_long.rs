@@ -14,7 +14,6 @@ const TENTH: [u8; 10] = [0, 1, 2, 3, 0x7f, 0x80, 0x81, 0x82, 0xfe, 0xff];
 
 pub fn run(rng: &mut Rng) -> Outcome {
     let mut forms = Forms::default();
-    let mut cases = 0;
     let mut buf = [0; 14];
     for _ in 0..STRINGS {
         let len = 4 + rng.below(11);
@@ -22,17 +21,15 @@ pub fn run(rng: &mut Rng) -> Outcome {
         shape(rng, s);
         for at in 0..=len {
             same_varint(&mut forms, s, at)?;
-            cases += 1;
         }
     }
-    cases += every_last_byte(&mut forms)?;
+    every_last_byte(&mut forms)?;
     for _ in 0..NEAR {
         near_a_width(rng, &mut forms)?;
-        cases += 2;
     }
     by_hand(&mut forms)?;
     forms.finish("varint-long", OVERLONG)?;
-    Ok(cases + 2 * BY_HAND.len() as u64)
+    Ok(forms.cases())
 }
 
 /// Padding, then a run of continuation bytes that ends somewhere or is cut, then anything.
@@ -60,8 +57,7 @@ fn put(s: &mut [u8], at: usize, byte: u8) {
 }
 
 /// Up to twelve bytes of a kind, of which the last are 80, then every byte, and nothing, a zero or a one behind it.
-fn every_last_byte(forms: &mut Forms) -> Outcome {
-    let mut cases = 0;
+fn every_last_byte(forms: &mut Forms) -> Check {
     let mut refused = [[0; 3]; 14];
     for before in 0..=12 {
         for filler in [0x81, 0xff] {
@@ -74,7 +70,6 @@ fn every_last_byte(forms: &mut Forms) -> Outcome {
                         s.extend(behind);
                         let number = same_varint(forms, &s, 0)?;
                         same_u32(forms, &s, 0)?;
-                        cases += 2;
                         let counts = &mut refused[before + 1];
                         for (count, kind) in counts.iter_mut().zip([22, 23, OVERLONG]) {
                             *count += u64::from(number == kind);
@@ -88,14 +83,23 @@ fn every_last_byte(forms: &mut Forms) -> Outcome {
         let [cut, wide, overlong] = refused[len];
         format!("{len} bytes 22: {cut}, 23: {wide}, 30: {overlong}")
     });
-    note(&format!("varint-long: refused up to a last byte of {}", listed.join("; ")));
+    note(&format!(
+        "varint-long: refused up to a last byte of {}",
+        listed.join("; ")
+    ));
     // A number of at most nine bytes is never too wide, and one of eleven always, whatever its last byte.
     let met = |len: usize| refused[len].map(|count| count > 0);
-    let wanted = [(9, [true, false, true]), (10, [true, true, true]), (11, [false, true, false])];
+    let wanted = [
+        (9, [true, false, true]),
+        (10, [true, true, true]),
+        (11, [false, true, false]),
+    ];
     for (len, kinds) in wanted {
-        agree(&met(len), &kinds, || format!("22, 23 and 30 at {len} bytes"))?;
+        agree(&met(len), &kinds, || {
+            format!("22, 23 and 30 at {len} bytes")
+        })?;
     }
-    Ok(cases)
+    Ok(())
 }
 
 /// A number around 32 or 64 bits, or around seven times as many bits, in its shortest form or a longer one.

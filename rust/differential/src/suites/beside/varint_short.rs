@@ -14,7 +14,7 @@ const ZERO_ENDED: u64 = 49_280;
 
 pub fn run(_: &mut Rng) -> Outcome {
     let mut forms = Forms::default();
-    let (mut cases, mut read, mut overlong) = (0, 0, 0);
+    let (mut read, mut overlong) = (0, 0);
     for len in 0..=3 {
         for word in 0..1u32 << (8 * len) {
             let bytes = word.to_le_bytes();
@@ -29,7 +29,6 @@ pub fn run(_: &mut Rng) -> Outcome {
             for max in [0, u64::MAX] {
                 same_sizes(&mut forms, s, 0, max)?;
             }
-            cases += len as u64 + 7;
         }
     }
     note(&format!(
@@ -40,5 +39,5 @@ pub fn run(_: &mut Rng) -> Outcome {
         "strings that read, and overlong ones".into()
     })?;
     forms.finish("varint-short", OVERLONG)?;
-    Ok(cases)
+    Ok(forms.cases())
 }

@@ -32,7 +32,9 @@ pub fn run(rng: &mut Rng) -> Outcome {
     note(&format!(
         "desk-faults, sealing: bytes with an overlong number, refused with 3: {overlong}"
     ));
-    agree(&(overlong > 0), &true, || "an overlong number to seal".into())?;
+    agree(&(overlong > 0), &true, || {
+        "an overlong number to seal".into()
+    })?;
     let preparings = prepared.finish("desk-faults, preparing", &[0, 1, 2, 19, 26, 27])?;
     let numbers = [0, 1, 2, 3, 4, 5, 6, 17, 18, 28];
     Ok(preparings + sealed.finish("desk-faults, sealing", &numbers)?)

@@ -183,7 +183,9 @@ fn longer(rng: &mut Rng) -> Outcome {
             sealing_bytes(&mut Areas::new(1, 0), bytes, 0, 3)
         })?;
     }
-    note(&format!("desk-faults: numbers of rows to seal that are longer, refused with 3: {cases}"));
+    note(&format!(
+        "desk-faults: numbers of rows to seal that are longer, refused with 3: {cases}"
+    ));
     Ok(cases)
 }
 

@@ -16,7 +16,7 @@ pub fn by_value() -> Check {
     for (at, longer) in [(8, [0x80, 0]), (1, [0x82, 0]), (0, [0x81, 0])] {
         let mut lent = lent.clone();
         lent.batch.splice(at..at + 1, longer);
-        says(desk.call(&lent), "refused 3")?;
+        says(desk.call(&lent), "refused 3 0 0")?;
         says(desk.held(), "1:2")?;
     }
     Ok(())

@@ -33,10 +33,14 @@ pub const PROVOCATIONS: &[Provocation] = &[
     ("an overlong wall time", [3, 0, 0], || {
         bytes(&[&[1, 0x83, 0], &ROW[1..]].concat())
     }),
-    ("an overlong length of a payload of 257 bytes", [3, 0, 0], || {
-        let start = [1, 3, 0, 7, 7, 3, 0, 0x81, 0x82, 0];
-        bytes(&[&start[..], &[1; 257], &ROW[7..]].concat())
-    }),
+    (
+        "an overlong length of a payload of 257 bytes",
+        [3, 0, 0],
+        || {
+            let start = [1, 3, 0, 7, 7, 3, 0, 0x81, 0x82, 0];
+            bytes(&[&start[..], &[1; 257], &ROW[7..]].concat())
+        },
+    ),
     ("an author twice among the dependencies", [3, 0, 0], || {
         bytes(&[&[1, 3, 0, 7, 7, 3, 2, 1, 1, 1, 2], &ROW[6..]].concat())
     }),

@@ -75,9 +75,11 @@ pub const PROVOCATIONS: &[Provocation] = &[
     ("five in two bytes, above four", [30, 0, 0], || {
         sys::get_count(&[0x85, 0, 5, 5, 5, 5, 5], 0, 4).told
     }),
-    ("an overlong length above the bytes left", [30, 0, 0], || {
-        sys::get_bytes(&[0x85, 0], 0, 9).told
-    }),
+    (
+        "an overlong length above the bytes left",
+        [30, 0, 0],
+        || sys::get_bytes(&[0x85, 0], 0, 9).told,
+    ),
     ("an envelope's sender in two bytes", [30, 0, 0], || {
         sys::decode_envelope(&[0x87, 0, 0, 0]).told
     }),
