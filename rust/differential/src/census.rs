@@ -1,4 +1,5 @@
-//! How often calls were accepted, refused with each number, and moved rows in each way, and what became of stamps.
+//! How often calls were accepted, refused with each number, and moved rows in each way, and what became of stamps; how many
+//! inputs were compared with the original, and how many have an overlong number.
 
 use std::collections::BTreeMap;
 
@@ -193,5 +194,41 @@ impl Numbers {
             Some(number) => Err(format!("  {what}: {number} never occurred")),
             None => Ok(self.0.values().sum()),
         }
+    }
+}
+
+#[cfg(test)]
+mod tests {
+    use super::*;
+    use cuwelfra_sys::NumberRead;
+
+    /// A suite that meets no overlong number, or nothing else, fails.
+    #[test]
+    fn both_kinds_must_come_up() {
+        let passes = |kinds: &[bool]| {
+            let mut forms = Forms::default();
+            kinds.iter().for_each(|overlong| forms.note(*overlong));
+            assert_eq!(forms.cases(), kinds.len() as u64);
+            forms.finish("tests", OVERLONG).is_ok()
+        };
+        assert!(!passes(&[]) && !passes(&[true]) && !passes(&[false; 2]));
+        assert!(passes(&[false, true, false]));
+
+        let mut census = Census {
+            accepted: 1,
+            ..Census::default()
+        };
+        assert!(census.overlong_batches("tests").is_err());
+        (census.refused[3], census.overlong) = (1, 1);
+        assert_eq!(census.overlong_batches("tests"), Ok(()));
+    }
+
+    #[test]
+    fn the_original_is_not_asked_of_an_overlong_number() {
+        let mut forms = Forms::default();
+        let told: NumberRead = forms.wanted(true, || panic!("asked"));
+        assert_eq!(told, NumberRead::refusing(refused(30)));
+        let told = forms.wanted(false, || NumberRead::refusing(refused(22)));
+        assert_eq!(told, NumberRead::refusing(refused(22)));
     }
 }

@@ -247,6 +247,23 @@ mod tests {
     use super::*;
 
     #[test]
+    fn a_field_that_was_never_overlong_is_named() {
+        let mut readings = Readings::default();
+        for (tag, fields) in NUMBERED.iter().enumerate() {
+            fields
+                .iter()
+                .for_each(|field| readings.overlong[tag][*field as usize] = 1);
+        }
+        let mut lacking = Vec::new();
+        let told = readings.overlong(&mut lacking);
+        assert_eq!(told, "Hello 3, Delta 11, Ack 3, Ping 1, Pong 1");
+        assert!(lacking.is_empty());
+        readings.overlong[1][Field::Counter as usize] = 0;
+        readings.overlong(&mut lacking);
+        assert_eq!(lacking, ["30 at the counter of Delta"]);
+    }
+
+    #[test]
     fn names_stand_in_the_order_of_the_fields() {
         for (i, (field, _)) in FIELDS.iter().enumerate() {
             assert_eq!(*field as usize, i);

@@ -143,6 +143,15 @@ pub struct Size {
 type Read<T> = Result<T, Fault>;
 
 impl Fault {
+    fn at(told: Told, field: Field) -> Self {
+        Self {
+            told,
+            field,
+            size: None,
+            tag: None,
+        }
+    }
+
     /// Whether a number is in more bytes than it needs.
     pub fn is_overlong(&self) -> bool {
         self.told.number == leb128::OVERLONG
@@ -285,14 +294,12 @@ impl<'a> Walk<'a> {
             _ => return Ok(size as usize),
         };
         Err(Fault {
-            told: refused(number),
-            field,
             size: Some(Size {
                 value: size,
                 before,
                 left,
             }),
-            tag: None,
+            ..Fault::at(refused(number), field)
         })
     }
 
@@ -319,12 +326,7 @@ impl<'a> Walk<'a> {
 }
 
 fn fault<T>(told: Told, field: Field) -> Read<T> {
-    Err(Fault {
-        told,
-        field,
-        size: None,
-        tag: None,
-    })
+    Err(Fault::at(told, field))
 }
 
 /// What a reading call answers, what it writes, and where it was refused.
@@ -414,12 +416,7 @@ fn turned_down<T: Refusing>(fault: Fault, met: Met) -> Answer<T> {
 }
 
 fn short(field: Field) -> Fault {
-    Fault {
-        told: refused(2),
-        field,
-        size: None,
-        tag: None,
-    }
+    Fault::at(refused(2), field)
 }
 
 fn fits(message: Message, rows: usize) -> Read<Message> {
