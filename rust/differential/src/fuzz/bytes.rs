@@ -5,6 +5,7 @@ use crate::fuzz::offers::{
     plainer_clocks, plainer_limits, shown_clock, shown_limits, shown_offer, smaller_offers,
 };
 use crate::fuzz::shrink::{hex, lower, smaller_bytes, without, Input};
+use crate::leb128::lengthen_first;
 use crate::model::{batch_call, modelled};
 use crate::port::batches::{batch, Offer};
 use crate::port::lending::Lent;
@@ -69,6 +70,7 @@ fn strange(rng: &mut Rng, lent: &mut Lent) {
         5 => over_limits(rng, &mut lent.limits),
         6 => lent.scratch = rng.below(704 * 8),
         7 => lent.output = rng.below(18 * 8),
+        8 => lengthen_first(bytes),
         _ if at < bytes.len() => bytes[at] = rng.edge() as u8,
         _ => bytes.push(rng.byte()),
     }

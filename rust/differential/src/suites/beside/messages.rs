@@ -161,8 +161,7 @@ impl Beside {
         let (read, met) = read_message(body);
         self.alone.judge(body, &read)?;
         if let (Ok(message), true) = (&read, met.rose()) {
-            let written = bytes(message);
-            agree(&&written[..], &body, || {
+            agree(&&encoded(message)[..], &body, || {
                 format!("{message:02x?}, its spelling")
             })?;
             self.spelled += 1;
@@ -259,7 +258,7 @@ impl Beside {
         note(&format!("messages: {}", self.alone.finish()?));
         let spelled = self.spelled;
         note(&format!(
-            "messages: {spelled} bodies that were read are what their message is written as; in the others authors do not rise"
+            "messages: {spelled} bodies that were read are what the original writes; in the others authors do not rise"
         ));
         agree(&(spelled > 0), &true, || {
             "bodies in their one spelling".into()
