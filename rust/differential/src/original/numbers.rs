@@ -39,7 +39,7 @@ pub fn same_sizes(forms: &mut Forms, s: &[u8], at: usize, max: u64) -> Check {
 }
 
 /// Whether the number at `at` is in more bytes than it needs.
-pub fn is_overlong(s: &[u8], at: usize) -> bool {
+fn is_overlong(s: &[u8], at: usize) -> bool {
     leb128::read(left(s, at)) == Err(OVERLONG)
 }
 
