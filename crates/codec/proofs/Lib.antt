@@ -1,8 +1,10 @@
 pub mod ShortestForm
 pub mod ReadSteps
+pub mod Overlong
 pub mod VarintLoop
 pub mod WriterLaws
 pub mod RoundTrip
+pub mod OneSpelling
 pub mod LongerInput
 pub mod ReadParts
 pub mod ReaderParts

@@ -1,7 +1,7 @@
 -- Reading in a longer list: bytes in front move the positions, bytes behind change nothing that was read.
 use Prim.Native.Nat.{ℕ, _+_, _-_, _^_, _≤_, _<_}
 use mathlib.Core.Path.{_≡_, refl, _∙_, ap}
-use mathlib.Core.Bool.{Bool, true, false, _&&_}
+use mathlib.Core.Bool.{Bool, true, false, not, _&&_}
 use mathlib.Core.List.{List, [], _∷_, _++_}
 use native.Mathlib.Omega.{arith}
 use lib.Dec.{ltb, leb}
@@ -9,12 +9,12 @@ use lib.ListN.{length, drop, length-append}
 use lib.Seq.{drop-append-le, drop-append-add}
 use borrow.Author.Tests.{lt-ltb, le-leb, leb-true}
 use Rattle.words.specs.Choice.{pick}
-use Rattle.error.specs.declared.Refusal.the-variants.{Truncated, VarintOverflow, TooLarge}
+use Rattle.error.specs.declared.Refusal.the-variants.{Truncated, VarintOverflow, Overlong, TooLarge}
 use Rattle.error.specs.Answer.{Got, got, bad, need, after}
-use Rattle.codec.specs.Leb128.{groups, hasLast, valueOf}
-use Rattle.codec.specs.Reading.{judged, judge, getVarint, getCount, Part, getBytes}
+use Rattle.codec.specs.Leb128.{groups, hasLast, valueOf, overlong}
+use Rattle.codec.specs.Reading.{judged, judge, getAny, onlyShortest, getVarint, getCount, Part, getBytes}
 use Rattle.codec.proofs.ReadSteps.{after-got, need-got, and-true}
-use Rattle.codec.proofs.RoundTrip.{ReadVarint, varint-read}
+use Rattle.codec.proofs.RoundTrip.{ReadVarint, varint-read, varint-short}
 
 -- an answer whose positions are k further on
 abbrev pub moved : {A : Type 0} → ℕ → (A → A) → Got A → Got A
@@ -29,24 +29,28 @@ further k p = record { start = k + p .start; len = p .len }
 
 -- a number that stands there is read
 found : (s : List ℕ) (at : ℕ) → hasLast (groups (drop at s)) ≡ true → length (groups (drop at s)) ≤ 10 → valueOf 0 (groups (drop at s)) < 2 ^ 64
+    → overlong (groups (drop at s)) ≡ false
     → getVarint s at ≡ got (valueOf 0 (groups (drop at s))) (at + length (groups (drop at s)))
-unfolding getVarint judge judged
-found s at e h k = rw (e, le-leb (length (groups (drop at s))) 10 h, lt-ltb (valueOf 0 (groups (drop at s))) (2 ^ 64) k)
+unfolding getVarint getAny onlyShortest judge judged
+found s at e h k o = rw (e, le-leb (length (groups (drop at s))) 10 h, lt-ltb (valueOf 0 (groups (drop at s))) (2 ^ 64) k, o)
 
 -- bytes in front
-needs-moved : (k v x : ℕ) (t e : Bool) → need t VarintOverflow (need e Truncated (got v (k + x))) ≡ moved k same (need t VarintOverflow (need e Truncated (got v x)))
-needs-moved k v x true true = refl
-needs-moved k v x true false = refl
-needs-moved k v x false e = refl
+needs-moved : (k v x : ℕ) (t e o : Bool)
+    → after (need t VarintOverflow (need e Truncated (got v (k + x)))) (λ v next. need o Overlong (got v next))
+    ≡ moved k same (after (need t VarintOverflow (need e Truncated (got v x))) (λ v next. need o Overlong (got v next)))
+needs-moved k v x true true true = refl
+needs-moved k v x true true false = refl
+needs-moved k v x true false o = refl
+needs-moved k v x false e o = refl
 
 module _ (p s : List ℕ) (at : ℕ) where
   pub varint-moved : getVarint (p ++ s) (length p + at) ≡ moved (length p) same (getVarint s at)
-  unfolding getVarint judge judged
+  unfolding getVarint getAny onlyShortest judge judged
   varint-moved =
       let z : length p + at + length (groups (drop at s)) ≡ length p + (at + length (groups (drop at s))) = omega arith in
       rw (drop-append-add p s at, z)
       (needs-moved (length p) (valueOf 0 (groups (drop at s))) (at + length (groups (drop at s)))
-      (leb (length (groups (drop at s))) 10 && ltb (valueOf 0 (groups (drop at s))) (2 ^ 64)) (hasLast (groups (drop at s))))
+      (leb (length (groups (drop at s))) 10 && ltb (valueOf 0 (groups (drop at s))) (2 ^ 64)) (hasLast (groups (drop at s))) (not (overlong (groups (drop at s)))))
 
   count-from : (max : ℕ) (g : Got ℕ)
       → after (moved (length p) same g) (λ n next. need (leb n max && leb n (length (p ++ s) - next)) TooLarge (got n next))
@@ -92,7 +96,7 @@ module _ (s q : List ℕ) (at : ℕ) where
   varint-more v n e =
       let r : ReadVarint s at v n = varint-read s at v n e in
       let d : groups (drop at (s ++ q)) ≡ groups (drop at s) = rw (drop-append-le at s q (omega arith)) (groups-more (drop at s) q (r .ended)) in
-      found (s ++ q) at (rw d (r .ended)) (rw d (r .few)) (rw d (omega arith)) ∙ rw (d, ← r .value, ← r .next)
+      found (s ++ q) at (rw d (r .ended)) (rw d (r .few)) (rw d (omega arith)) (rw d (varint-short s at v n e)) ∙ rw (d, ← r .value, ← r .next)
 
   pub count-more : (max n next : ℕ) → getCount s at max ≡ got n next → getCount (s ++ q) at max ≡ got n next
   unfolding getCount

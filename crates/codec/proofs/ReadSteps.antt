@@ -1,12 +1,17 @@
 -- One step of a reading: by what was read, and by a test.
-use Prim.Native.Nat.{ℕ}
+use Prim.Native.Nat.{ℕ, _≤_}
 use mathlib.Core.Bool.{Bool, true, false, _&&_}
 use mathlib.Core.List.{List}
 use mathlib.Core.Path.{_≡_, refl, sym, _∙_, ap}
+use mathlib.Core.Logic.{inl, inr}
 use native.Mathlib.Omega.{arith}
+use lib.ListN.{length}
+use borrow.Author.Tests.{le-leb, lt-leb}
+use Rattle.words.proofs.Words.{lt-or-le}
 use Rattle.error.specs.declared.Refusal.{Refusal}
+use Rattle.error.specs.declared.Refusal.the-variants.{TrailingBytes}
 use Rattle.error.specs.Answer.{Got, got, bad, after, need, Answer, done, refused, andThen}
-use Rattle.codec.specs.Reading.{getVarint, gotNumber, Part, gotPart, finishedAt}
+use Rattle.codec.specs.Reading.{getVarint, gotNumber, Part, gotPart, finish, finishedAt}
 use Rattle.codec.specs.Envelopes.{closed, readEnvelope}
 use Rattle.codec.specs.inside.EnvelopeParts.{readParts}
 use Rattle.codec.specs.declared.Finished.{Finished}
@@ -53,6 +58,21 @@ pub and-true : (a b : Bool) → (a && b) ≡ true → (a ≡ true) × (b ≡ tru
 and-true true b e = (refl, e)
 and-true false b e = let z : _≡_ {A = ℕ} 0 1 = cc in absurd (omega arith)
 
+pub got-value : {A : Type 0} {a b : A} {m n : ℕ} → got a m ≡ got b n → a ≡ b
+got-value e = cc
+
+pub got-next : {A : Type 0} {a b : A} {m n : ℕ} → _≡_ {A = Got A} (got a m) (got b n) → m ≡ n
+got-next e = cc
+
+-- go on with what was read, where nothing was refused
+module _ {A B : Type 0} {P : Type 0} {b : B} {m : ℕ} where
+  pub by : (g : Got A) (f : A → ℕ → Got B) → after g f ≡ got b m → ((a : A) (n : ℕ) → g ≡ got a n → f a n ≡ got b m → P) → P
+  by g f e k = let x = after-got g f e in k (x .0) (x .1) (x .2) (x .3)
+
+module _ {A : Type 0} {P : Type 0} {a : A} {n : ℕ} where
+  pub past : (t : Bool) (r : Refusal) (g : Got A) → need t r g ≡ got a n → (t ≡ true → g ≡ got a n → P) → P
+  past t r g e k = let x = need-got t r g e in k (x .0) (x .1)
+
 -- what an answer of the code says of the reading that it stands for
 pub value-read : {g : Got ℕ} {r : NumberRead} {v n : ℕ} → gotNumber r ≡ g → r ≡ number.Value v n → g ≡ got v n
 value-read e f = sym e ∙ ap gotNumber f
@@ -70,6 +90,20 @@ part-refused e f = sym e ∙ ap gotPart f
 module _ {A : Type 0} (s : List ℕ) {g h : Got A} where
   pub shut : {y : Answer A} → h ≡ g → y ≡ closed s h → y ≡ closed s g
   shut e f = rw (← e) f
+
+pub closed-done : {A : Type 0} (s : List ℕ) (g : Got A) {a : A} → closed s g ≡ done a → (n : ℕ) × (g ≡ got a n) × (length s ≤ n)
+unfolding finish
+closed-done {A} s (got b n) {a} e =
+    elim (lt-or-le n (length s)) [
+      | inl h ↦
+          let x : refused TrailingBytes ≡ done a = rw (lt-leb (length s) n h) at e in
+          absurd (let z : _≡_ {A = ℕ} 0 1 = cc in omega arith)
+      | inr h ↦
+          let x : done b ≡ done a = rw (le-leb (length s) n h) at e in
+          let y : b ≡ a = cc in
+          (n, ap (λ (z : A). got z n) y, h)
+    ]
+closed-done s (bad k) e = absurd (let z : _≡_ {A = ℕ} 0 1 = cc in omega arith)
 
 module _ {A B : Type 0} {a : Answer A} (f : A → Answer B) where
   pub next : {x : A} {y : Answer B} → a ≡ done x → y ≡ f x → y ≡ andThen a f

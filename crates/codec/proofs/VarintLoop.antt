@@ -1,4 +1,4 @@
--- One turn of get_varint.
+-- One turn of get_any.
 use Prim.Native.Nat.{ℕ, suc, _+_, _*_, _%_, _^_, _≤_, _<_}
 use mathlib.Core.Logic.{⊎-elim}
 use mathlib.Core.Bool.{Bool, true, false, _&&_}
@@ -14,7 +14,7 @@ use lib.Dec.{ltb}
 use borrow.Author.Tests.{lt-ltb, le-ltb, le-leb, lt-leb}
 use Rattle.words.specs.Choice.{pick}
 use Rattle.codec.specs.Leb128.{groups, hasLast, valueOf}
-use Rattle.codec.specs.Reading.{judged, judge, getVarint}
+use Rattle.codec.specs.Reading.{judged, judge, getAny}
 use Rattle.error.specs.declared.Refusal.the-variants.{Truncated, VarintOverflow}
 use Rattle.error.specs.Answer.{Got, got, bad}
 
@@ -29,10 +29,10 @@ pub record Going (s : List ℕ) (at v k i : ℕ) : Type 0 where
   pub few : n ≤ 10
   pub below : v < 2 ^ k
   pub fits : v < 2 ^ 64
-  pub same : getVarint s at ≡ onward (groups (drop i s)) i n v k
+  pub same : getAny s at ≡ onward (groups (drop i s)) i n v k
 
 pub start : (s : List ℕ) (at : ℕ) → Going s at 0 0 at
-unfolding getVarint judge onward
+unfolding getAny judge onward
 start s at =
     let e : 0 + length (groups (drop at s)) ≡ length (groups (drop at s)) = omega arith in
     let f : 0 + valueOf 0 (groups (drop at s)) ≡ valueOf 0 (groups (drop at s)) = omega arith in
@@ -92,14 +92,14 @@ under : (p v k w : ℕ) → p < 128 → v < 2 ^ k → w ≡ v + p * 2 ^ k → w 
 under p v k w h l e = omega (arith, mul-le-mul-right (2 ^ k) h, pow-add 2 k 7)
 
 module _ {s : List ℕ} {at v k i : ℕ} (g : Going s at v k i) where
-  pub ended : length s ≤ i → bad Truncated ≡ getVarint s at
+  pub ended : length s ≤ i → bad Truncated ≡ getAny s at
   unfolding groups
   ended h = sym (g .same ∙ rw (drop-of-length-le s h) (sym (on-end i (g .n) v k (g .few) (g .fits))))
 
-  pub many : i < length s → 64 ≤ k → bad VarintOverflow ≡ getVarint s at
+  pub many : i < length s → 64 ≤ k → bad VarintOverflow ≡ getAny s at
   many h l = sym (g .same ∙ rw (next-some s i h) (sym (on-many _ _ i (g .n) v k (omega arith))))
 
-  pub big : i < length s → k ≡ 63 → 1 < getD s i 0 % 128 → bad VarintOverflow ≡ getVarint s at
+  pub big : i < length s → k ≡ 63 → 1 < getD s i 0 % 128 → bad VarintOverflow ≡ getAny s at
   big h l m =
       sym (g .same ∙ rw (next-some s i h) (sym (on-big _ _ i (g .n) v k (rw l (omega arith)))))
 
@@ -112,7 +112,7 @@ module _ {s : List ℕ} {at v k i : ℕ} (g : Going s at v k i) where
     total : w ≡ v + getD s i 0 % 128 * 2 ^ k
     total = rw (← q) e
 
-    pub last : getD s i 0 < 128 → got w (i + 1) ≡ getVarint s at
+    pub last : getD s i 0 < 128 → got w (i + 1) ≡ getAny s at
     last b = sym (g .same ∙ rw (next-last s i h b) (sym (rw total (on-last _ i (g .n) v k b (omega arith) (omega (arith, total))))))
 
     pub again : 128 ≤ getD s i 0 → Going s at w (k + 7) (i + 1)

@@ -1,12 +1,13 @@
--- The Rust's Reader on a list of bytes and a position: src/codec.rs, `impl Reader`. 01: "truncated, overflow, too large, trailing" are 22 to 25.
+-- The Rust's Reader on a list of bytes and a position: src/codec.rs, `impl Reader`; overlong forms are refused. 01: "truncated, overflow, too large, trailing" are
+-- 22 to 25.
 use Prim.Native.Nat.{ℕ, _+_, _-_, _^_}
-use mathlib.Core.Bool.{Bool, _&&_}
+use mathlib.Core.Bool.{Bool, not, _&&_}
 use lib.ListN.{length, take, drop, getD}
 use lib.Dec.{ltb, leb}
 use Rattle.words.specs.Names.{Bytes, Position}
-use Rattle.error.specs.declared.Refusal.the-variants.{Truncated, VarintOverflow, TooLarge, TrailingBytes}
+use Rattle.error.specs.declared.Refusal.the-variants.{Truncated, VarintOverflow, Overlong, TooLarge, TrailingBytes}
 use Rattle.error.specs.Answer.{Answer, done, refused, unless, Got, got, bad, after, need}
-use Rattle.codec.specs.Leb128.{groups, hasLast, valueOf}
+use Rattle.codec.specs.Leb128.{groups, hasLast, valueOf, overlong}
 use Rattle.codec.specs.declared.NumberRead.{NumberRead}
 use Rattle.codec.specs.declared.NumberRead.the-variants as number
 use Rattle.codec.specs.declared.PartRead.{PartRead}
@@ -19,7 +20,7 @@ unfoldable pub getU8 : Bytes → Position → Got ℕ
 getU8 s at = need (ltb at (length s)) Truncated (got (getD s at 0) (at + 1))
 
 -- 01: "at most ten bytes"; "varint above 64 bits". A sequence of more than ten bytes or a value from 2^64 on is 23, even where its end
--- is missing; else a missing end is 22. 01: "Reading allows overlong forms"
+-- is missing; else a missing end is 22
 unfoldable pub judged : (ended : Bool) → (count value : ℕ) → (next : Position) → Got ℕ
 judged ended count value next = need (leb count 10 && ltb value (2 ^ 64)) VarintOverflow (need ended Truncated (got value next))
 
@@ -27,12 +28,21 @@ judged ended count value next = need (leb count 10 && ltb value (2 ^ 64)) Varint
 unfoldable pub judge : Bytes → Position → Got ℕ
 judge g at = judged (hasLast g) (length g) (valueOf 0 g) (at + length g)
 
-unfoldable pub getVarint : Bytes → Position → Got ℕ
-getVarint s at = judge (groups (drop at s)) at
+-- a number in any form, as the Rust reads it
+unfoldable pub getAny : Bytes → Position → Got ℕ
+getAny s at = judge (groups (drop at s)) at
 
--- a varint that fits 32 bits, else 23
+-- 02: "The varint reader refuses overlong forms". The number v of the sequence g, or 30
+unfoldable pub onlyShortest : Bytes → ℕ → Position → Got ℕ
+onlyShortest g v next = need (not (overlong g)) Overlong (got v next)
+
+-- 02: "30 .. after 22 and 23"
+unfoldable pub getVarint : Bytes → Position → Got ℕ
+getVarint s at = after (getAny s at) (λ v next. onlyShortest (groups (drop at s)) v next)
+
+-- a varint that fits 32 bits, else 23; 30 after that 23 too
 unfoldable pub getU32 : Bytes → Position → Got ℕ
-getU32 s at = after (getVarint s at) (λ v next. need (ltb v (2 ^ 32)) VarintOverflow (got v next))
+getU32 s at = after (getAny s at) (λ v next. need (ltb v (2 ^ 32)) VarintOverflow (onlyShortest (groups (drop at s)) v next))
 
 -- Reader::count, else 24. rs: "Rejects counts above max or above the bytes that remain"
 unfoldable pub getCount : Bytes → Position → (limit : ℕ) → Got ℕ

@@ -7,14 +7,14 @@ use stubs::ActorId;
 ghost use mathlib.Core.Path.{_≡_};
 ghost use Prim.Native.Nat.{_+_, _*_, _%_, _^_, _≤_, _<_};
 ghost use mathlib.Core.List.{[], _∷_};
-ghost use lib.ListN.{length};
+ghost use lib.ListN.{length, drop};
 ghost use lib.Dec.{ltb};
-ghost use Rattle.codec.specs.Leb128.{shortest};
-ghost use Rattle.codec.specs.Reading.{getU8, getVarint, getU32, getCount, getBytes, finish, gotNumber, gotPart, finishedAt};
+ghost use Rattle.codec.specs.Leb128.{groups, shortest};
+ghost use Rattle.codec.specs.Reading.{getU8, getAny, onlyShortest, getVarint, getU32, getCount, getBytes, finish, gotNumber, gotPart, finishedAt};
 ghost use Rattle.codec.specs.Writing.{writeCall, writtenOf, sized};
 ghost use Rattle.codec.specs.Envelopes.{envelope, readEnvelope, envelopeOf};
 ghost use Rattle.codec.specs.inside.EnvelopeParts.{room, envelopeLength, Stored, readParts};
-ghost use Rattle.error.specs.Answer.{ends};
+ghost use Rattle.error.specs.Answer.{ends, got};
 
 // Largest accepted frame or body, in bytes.
 pub const MAX_FRAME: u64 = 16777216;
@@ -144,9 +144,9 @@ pub fn get_u8(s: &[u8], at: usize) -> NumberRead
     }
 }
 
-// The varint at `at`: at most ten bytes and 64 bits, overlong forms allowed.
-pub fn get_varint(s: &[u8], at: usize) -> NumberRead
-    ensures { λ r. ⌜ gotNumber r ≡ getVarint (now (s .entry)) at ⌝ }
+// The varint at `at` in any form: at most ten bytes and 64 bits.
+fn get_any(s: &[u8], at: usize) -> NumberRead
+    ensures { λ r. ⌜ gotNumber r ≡ getAny (now (s .entry)) at ⌝ }
 {
     let mut value: u64 = 0;
     let mut shift: u32 = 0;
@@ -170,18 +170,40 @@ pub fn get_varint(s: &[u8], at: usize) -> NumberRead
     NumberRead::Refused(Refusal::Truncated)
 }
 
-// The varint at `at`, of at most 32 bits.
+// The value that was read from `at` to `next`, unless its bytes are two or more and end in a zero byte.
+fn only_shortest(s: &[u8], at: usize, value: u64, next: usize) -> NumberRead
+    requires { ⌜ getAny (now s) at ≡ got value next ⌝ }
+    ensures { λ r. ⌜ gotNumber r ≡ onlyShortest (groups (drop at (now (s .entry)))) value next ⌝ }
+{
+    if next - at > 1 && s[next - 1] == 0 {
+        return NumberRead::Refused(Refusal::Overlong);
+    }
+    NumberRead::Value { value, next }
+}
+
+// The varint at `at`, in its shortest form.
+pub fn get_varint(s: &[u8], at: usize) -> NumberRead
+    ensures { λ r. ⌜ gotNumber r ≡ getVarint (now (s .entry)) at ⌝ }
+{
+    let read = get_any(s, at);
+    match read {
+        NumberRead::Refused(r) => NumberRead::Refused(r),
+        NumberRead::Value { value, next } => only_shortest(s, at, value, next),
+    }
+}
+
+// The varint at `at`, of at most 32 bits, in its shortest form.
 pub fn get_u32(s: &[u8], at: usize) -> NumberRead
     ensures { λ r. ⌜ gotNumber r ≡ getU32 (now (s .entry)) at ⌝ }
 {
-    let read = get_varint(s, at);
+    let read = get_any(s, at);
     match read {
         NumberRead::Refused(r) => NumberRead::Refused(r),
         NumberRead::Value { value, next } => {
             if value > 4294967295 {
                 return NumberRead::Refused(Refusal::VarintOverflow);
             }
-            NumberRead::Value { value, next }
+            only_shortest(s, at, value, next)
         }
     }
 }

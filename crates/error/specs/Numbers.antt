@@ -1,7 +1,7 @@
 -- Document 01's table of refusals and those of document 02, a line each: the number, then the values that it carries.
 use Prim.Native.Nat.{ℕ}
 use Rattle.error.specs.declared.Refusal.{Refusal}
-use Rattle.error.specs.declared.Refusal.the-variants.{UnsoundStore, ShortArea, Unreadable, OverCapacity, ZeroSequence, ForeignStamp, SpentCounter, PayloadTooLarge, TooManyCauses, OwnFuture, AheadOfTime, BadSignature, Conflict, HeldOverflow, HeldBytes, AuthorOverflow, LogFull, AuthorsFull, CounterOverflow, RemoteAhead, UnaskedPong, Truncated, VarintOverflow, TooLarge, TrailingBytes, OperationTooLarge, SequenceExhausted, OtherCauses, InvalidTag}
+use Rattle.error.specs.declared.Refusal.the-variants.{UnsoundStore, ShortArea, Unreadable, OverCapacity, ZeroSequence, ForeignStamp, SpentCounter, PayloadTooLarge, TooManyCauses, OwnFuture, AheadOfTime, BadSignature, Conflict, HeldOverflow, HeldBytes, AuthorOverflow, LogFull, AuthorsFull, CounterOverflow, RemoteAhead, UnaskedPong, Truncated, VarintOverflow, TooLarge, TrailingBytes, OperationTooLarge, SequenceExhausted, OtherCauses, InvalidTag, Overlong}
 use Rattle.error.specs.declared.Told.{Told}
 
 -- a number and two values
@@ -44,3 +44,5 @@ toldOf SequenceExhausted = told 27 0 0
 toldOf OtherCauses = told 28 0 0
 -- 02: "29 when the tag is none of the five". It carries the tag, as the Rust's InvalidTag(u8)
 toldOf (InvalidTag tag) = told 29 tag 0
+-- 02: "30 when a varint of two or more bytes ends in a zero byte"
+toldOf Overlong = told 30 0 0

@@ -63,6 +63,8 @@ pub enum Refusal {
     OtherCauses,
     // 29 invalid tag
     InvalidTag { tag: u64 },
+    // 30 overlong
+    Overlong,
 }
 
 // The documents' number of a refusal.
@@ -102,6 +104,7 @@ pub fn number(r: Refusal) -> u64
         Refusal::SequenceExhausted => 27,
         Refusal::OtherCauses => 28,
         Refusal::InvalidTag { tag: _ } => 29,
+        Refusal::Overlong => 30,
     }
 }
 
@@ -142,6 +145,7 @@ pub fn first(r: Refusal) -> u64
         Refusal::SequenceExhausted => 0,
         Refusal::OtherCauses => 0,
         Refusal::InvalidTag { tag } => tag,
+        Refusal::Overlong => 0,
     }
 }
 
@@ -182,6 +186,7 @@ pub fn second(r: Refusal) -> u64
         Refusal::SequenceExhausted => 0,
         Refusal::OtherCauses => 0,
         Refusal::InvalidTag { tag: _ } => 0,
+        Refusal::Overlong => 0,
     }
 }
 

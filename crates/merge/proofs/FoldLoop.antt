@@ -32,7 +32,7 @@ use Rattle.merge.specs.declared.folding.Folded.{Folded}
 
 module _ (s : List ℕ) (b : Readable s) where
   counted-rows : (first : ℕ) × (number s 0 ≡ got (length (b .0)) first)
-  counted-rows = let (first, next, e, f) = batch-got s (b .0) (b .1) in (first, e)
+  counted-rows = let (first, e, f) = batch-got s (b .0) (b .1) in (first, e)
 
   pub has-count : (r : Refusal) → number s 0 ≡ bad r → ⊥
   has-count r e = got-not-bad (counted-rows .1) e

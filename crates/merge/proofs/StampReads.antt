@@ -8,9 +8,9 @@ use Rattle.error.specs.declared.Refusal.{Refusal}
 use Rattle.error.specs.Answer.{Got, got, bad}
 use Rattle.clock.specs.declared.stamp.Timestamp.{Timestamp}
 use Rattle.codec.specs.Reading.{getVarint, getU32}
-use Rattle.codec.proofs.ReadSteps.{after-got}
+use Rattle.codec.proofs.ReadSteps.{after-got, got-value}
+use Rattle.codec.proofs.RoundTrip.{u32-is-varint}
 use Rattle.row.specs.Reading.{Head, unreadable, number, getHead, readHead, readRow}
-use Rattle.row.proofs.ReadSteps.{got-value, counter-read}
 use Rattle.row.proofs.ReadRows.{readable}
 use Rattle.working.specs.inside.References.{isRead}
 use Rattle.working.specs.inside.Looks.{batchRowAt}
@@ -45,7 +45,7 @@ module _ (s : List ℕ) (at : ℕ) where
   in-head head next e =
       let (wall, at₁, e₁, f₁) = after-got (getVarint s at) _ (readable (getHead s at) e) in
       let (counter, at₂, e₂, f₂) = after-got (getU32 s at₁) _ f₁ in
-      let (read, fits) = counter-read s at₁ counter at₂ e₂ in
+      let (read, fits) = u32-is-varint s at₁ counter at₂ e₂ in
       let (stamper, at₃, e₃, f₃) = after-got (getVarint s at₂) _ f₂ in
       let (author, at₄, e₄, f₄) = after-got (getVarint s at₃) _ f₃ in
       let (seq, at₅, e₅, f₅) = after-got (getVarint s at₄) _ f₄ in

@@ -27,16 +27,15 @@ module _ (s : List ℕ) where
       let p : rows ≡ row ∷ rest = cc in
       rw p (ap suc (read-length n at₁ rest at₂ e₃))
 
-  -- a batch that was read: the number of its rows, and behind it these
+  -- a batch that was read: the number of its rows, and behind it these, up to the end
   pub batch-got : (rows : List BatchRow) → readBatch s ≡ done rows
-      → (first : ℕ) × (next : ℕ) × (number s 0 ≡ got (length rows) first) × (readRows s first (length rows) ≡ got rows next)
+      → (first : ℕ) × (number s 0 ≡ got (length rows) first) × (readRows s first (length rows) ≡ got rows (length s))
   unfolding readBatch
   batch-got rows e =
-      let (next, f) = whole-got s _ rows e in
-      let (n, first, f₁, f₂) = after-got (number s 0) _ f in
+      let (n, first, f₁, f₂) = after-got (number s 0) _ (whole-got s _ rows e) in
       let (t, f₃) = need-got (leb n 64) _ _ f₂ in
-      let l : length rows ≡ n = read-length n first rows next f₃ in
-      (first, next, rw l f₁, rw l f₃)
+      let l : length rows ≡ n = read-length n first rows (length s) f₃ in
+      (first, rw l f₁, rw l f₃)
 
   -- what holds of every row that can be read holds of each row of a batch
   module _ (P : BatchRow → Type 0) (holds : (at : ℕ) (b : BatchRow) (next : ℕ) → readRow s at ≡ got b next → P b) where
@@ -52,7 +51,7 @@ module _ (s : List ℕ) where
         elim (List·Memᴰ·cases-cons (rw p at m)) [ inl q ↦ rw q (holds at row at₁ e₁) | inr k ↦ rows-have n at₁ rest at₂ e₃ b k ]
 
     pub batch-has : (rows : List BatchRow) → readBatch s ≡ done rows → (b : BatchRow) → List·Memᴰ b rows → P b
-    batch-has rows e = let (first, next, f, g) = batch-got rows e in rows-have (length rows) first rows next g
+    batch-has rows e = let (first, f, g) = batch-got rows e in rows-have (length rows) first rows (length s) g
 
 pub brought : (s : List ℕ) → AllBytes s → (rows : List BatchRow) → readBatch s ≡ done rows → Brings rows
 brought s bytes = batch-has s _ (λ at b next e. let k = read-row-ok s bytes at b next e in (k .row, k .outcome))

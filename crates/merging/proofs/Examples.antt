@@ -6,14 +6,15 @@ use mathlib.Core.Bool.{true, false}
 use mathlib.Core.List.{List, [], _∷_, _++_}
 use lib.ListN.{replicate}
 use Rattle.words.specs.Be.{be64}
+use Rattle.error.specs.declared.Refusal.the-variants.{Unreadable}
 use Rattle.error.specs.declared.Told.{Told}
 use Rattle.error.specs.Answer.{Answer, done, refused, andThen, accepted, toldBy}
 use Rattle.error.specs.Numbers.{told}
 use Rattle.clock.specs.declared.stamp.Timestamp.{Timestamp}
 use Rattle.clock.specs.Order.{less, stampKey, stampLess}
 use Rattle.clock.specs.Entries.{get, observe, put, dominates}
-use Rattle.codec.specs.Leb128.{groups, hasLast, valueOf}
-use Rattle.codec.specs.Reading.{judged, judge, getVarint, getU32, partOf}
+use Rattle.codec.specs.Leb128.{groups, hasLast, valueOf, overlong}
+use Rattle.codec.specs.Reading.{judged, judge, getAny, onlyShortest, getVarint, getU32, partOf}
 use Rattle.row.specs.Rows.{Row, outcomeOk, workKey, workLess}
 use Rattle.row.specs.Reading.{BatchRow, number, getHead, readHead, readPair, readPairs, readDeps, readPart, readClosing, readRow}
 use Rattle.log.specs.Store.{Mark, sameId, sameEntries}
@@ -156,14 +157,18 @@ logged-again = refl
 
 -- stands for the definitions that read a batch's bytes
 unfoldable pub reading : ℕ
-unfolding readBatch readRows readRow readHead getHead readDeps readPairs readPair readPart readClosing number getVarint getU32 judge judged groups hasLast valueOf partOf outcomeOk
+unfolding readBatch readRows readRow readHead getHead readDeps readPairs readPair readPart readClosing number getVarint getU32 getAny onlyShortest judge judged groups hasLast valueOf overlong partOf outcomeOk
 reading = 0
 
--- 01: "comparing rows by bytes, though 80 00 and 00 are equal values": 1:1 twice in a batch, its counter written as 00 and as 80 00
-by-value : counts (andThen (readBatch (2 ∷ 5 ∷ 0 ∷ 1 ∷ 1 ∷ 1 ∷ 0 ∷ 0 ∷ 0 ∷ 1 ∷ 0 ∷ 0 ∷ 5 ∷ 0x80 ∷ 0 ∷ 1 ∷ 1 ∷ 1 ∷ 0 ∷ 0 ∷ 0 ∷ 1 ∷ 0 ∷ 0 ∷ [])) (once (limits 64 1000)))
-    ≡ done (record { applied = 1; stale = 0; rejected = 0; duplicates = 1; held = 0; expired = 0; dropped = 0 })
-unfolding computing reading
-by-value = refl
+-- 02: "in a batch the refusal is 3": 1:1 twice in a batch, its counter written as 00 and as 80 00
+overlong-counter : readBatch (2 ∷ 5 ∷ 0 ∷ 1 ∷ 1 ∷ 1 ∷ 0 ∷ 0 ∷ 0 ∷ 1 ∷ 0 ∷ 0 ∷ 5 ∷ 0x80 ∷ 0 ∷ 1 ∷ 1 ∷ 1 ∷ 0 ∷ 0 ∷ 0 ∷ 1 ∷ 0 ∷ 0 ∷ []) ≡ refused Unreadable
+unfolding reading
+overlong-counter = refl
+
+-- and before 4: a count of 65, written as C1 00
+overlong-count : readBatch (0xC1 ∷ 0 ∷ []) ≡ refused Unreadable
+unfolding reading
+overlong-count = refl
 
 -- 01: "If it is not its author's next it is dropped": a held row at the clock's number
 dropped-row : counts (merge 10 (limits 64 1000) 1000 (record { log = r11 ∷ []; held = held 900 r11 ∷ []; floor = none; clock = (1, 1) ∷ []; compacted = []; marks = [] }) [])

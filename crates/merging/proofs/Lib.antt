@@ -16,6 +16,7 @@ pub mod RulesKept
 pub mod LeastReady
 pub mod RowContent
 pub mod BatchRows
+pub mod OneSpelling
 pub mod AreasToStores
 pub mod OwnRows
 pub mod Convergence

@@ -7,7 +7,7 @@ use mathlib.Core.List.{List, [], _∷_, List·Memᴰ, List·Memᴰ·not-nil, Lis
 use native.Mathlib.Omega.{arith}
 use lib.ListN.{length}
 use lib.Dec.{leb, eqb}
-use borrow.Author.Tests.{leb-true}
+use borrow.Author.Tests.{leb-true, eqb-true}
 use Rattle.error.specs.declared.Refusal.{Refusal}
 use Rattle.words.specs.Names.{Time}
 use Rattle.error.specs.Answer.{Answer, done, refused, andThen, unless, nothing, Ends, Got, got, bad}
@@ -42,12 +42,12 @@ pub then-done : {A B : Type 0} (x : Answer A) (f : A → Answer B) {b : B} → a
 then-done (done a) f e = (a, refl, e)
 then-done (refused r) f e = absurd (not-refused e)
 
--- what was read, before its end was tested
-pub whole-got : {A : Type 0} (s : List ℕ) (g : Got A) (a : A) → whole s g ≡ done a → (next : ℕ) × (g ≡ got a next)
+-- what was read, up to the end
+pub whole-got : {A : Type 0} (s : List ℕ) (g : Got A) (a : A) → whole s g ≡ done a → g ≡ got a (length s)
 whole-got s (got x at) a e =
     let (t, f) = unless-done (eqb at (length s)) _ _ e in
     let p : x ≡ a = cc in
-    (at, rw p)
+    rw (p, eqb-true at (length s) t)
 whole-got s (bad r) a e = absurd (not-refused e)
 
 -- where all rows pass, each does

@@ -5,8 +5,9 @@ use mathlib.Core.Option.{none}
 use mathlib.Core.List.{List, [], _∷_, _++_}
 use lib.ListN.{replicate}
 use Rattle.words.specs.Names.{Author, Seq, Time, Bytes, Clock}
+use Rattle.error.specs.declared.Refusal.the-variants.{Overlong}
 use Rattle.error.specs.Numbers.{told}
-use Rattle.error.specs.Answer.{Answer, done, nothing, andThen, accepted, toldBy, Ends, ends, got}
+use Rattle.error.specs.Answer.{Answer, done, nothing, andThen, accepted, toldBy, Ends, ends, bad}
 use Rattle.clock.specs.declared.stamp.Timestamp.{Timestamp}
 use Rattle.clock.specs.declared.hybrid.HybridClock.{HybridClock}
 use Rattle.clock.specs.declared.vector.CausalOrder.the-variants.{Concurrent}
@@ -95,10 +96,10 @@ heldAfter x = andThen (x .answer) (λ told. andThen (readStore (x .left .lent .a
 -- ---- the cases
 
 pub record P : Type 0 where
-  -- 01: "300 is AC 02, 2^64 − 1 is nine FF then 01, 80 00 reads 0 (hexadecimal)"
+  -- 01: "300 is AC 02, 2^64 − 1 is nine FF then 01"; of its third case 02: "80 00 (hexadecimal) no longer reads as 0"
   pub three-hundred : shortest 300 ≡ 0xac ∷ 0x02 ∷ []
   pub greatest : shortest (2 ^ 64 - 1) ≡ 0xff ∷ 0xff ∷ 0xff ∷ 0xff ∷ 0xff ∷ 0xff ∷ 0xff ∷ 0xff ∷ 0xff ∷ 0x01 ∷ []
-  pub overlong-zero : getVarint (0x80 ∷ 0x00 ∷ []) 0 ≡ got 0 2
+  pub overlong-zero : getVarint (0x80 ∷ 0x00 ∷ []) 0 ≡ bad Overlong
   -- 01: "own 10/3 (wall/counter), remote 10/7, physical 10 gives 10/8; remote 9/7 gives 10/4; remote 12/7 gives 12/8; remote 9/7 with physical 13 gives 13/0"
   pub equal-walls : updateCall (own 10 3) (remote 10 7) 10 ≡ moved 10 8
   pub own-wall : updateCall (own 10 3) (remote 9 7) 10 ≡ moved 10 4

@@ -4,6 +4,7 @@ pub mod Calls
 pub mod Delta
 pub mod FoldedStamps
 pub mod Desk
+pub mod OneSpelling
 pub mod Offers
 pub mod OwnRows
 pub mod Expiring

@@ -10,19 +10,17 @@ use lib.ListN.{length}
 use borrow.Author.Tests.{eqb-false, eq-eqb, ne-eqb}
 use Rattle.words.proofs.Words.{test}
 use Rattle.error.specs.declared.Refusal.{Refusal}
-use Rattle.error.specs.declared.Refusal.the-variants.{OverCapacity, Truncated, TooLarge, TrailingBytes, InvalidTag}
+use Rattle.error.specs.declared.Refusal.the-variants.{OverCapacity, Truncated, TooLarge, InvalidTag}
 use Rattle.error.specs.Answer.{Answer, done, refused, nothing, Got, got, bad, after}
 use Rattle.clock.specs.declared.vector.VectorClock.{VectorClock}
 use Rattle.clock.specs.Vector.{clockOf}
 use Rattle.codec.specs.Reading.{getU8, getVarint, getCount, finish}
-use Rattle.codec.specs.Envelopes.{closed}
-use Rattle.codec.proofs.ReadSteps.{after-got, need-got}
+use Rattle.codec.proofs.ReadSteps.{after-got, need-got, got-value, got-next, closed-done}
 use Rattle.row.specs.Rows.{Row}
 use Rattle.row.specs.Values.{endedBy}
 use Rattle.row.specs.inside.RowParts.{faultOf}
 use Rattle.row.specs.declared.Reading.{Reading}
 use Rattle.row.specs.declared.Reading.the-variants.{Read, Refused}
-use Rattle.row.proofs.ReadSteps.{got-value, got-next}
 use Rattle.message.specs.Messages.{Message, hello, delta, ack, ping, pong}
 use Rattle.message.specs.Reading.{countWithin, getClock, getSigned, getRows, messageBy, getBody, readMessage, maxOps}
 use Rattle.message.specs.inside.ReaderParts.{clockBy, checked, seen, bodyBy, closedBy, answeredBy, bodyOf, closedOf}
@@ -210,20 +208,6 @@ module _ (s : List ℕ) where
       closed-over h l = message-over (body-read _ (b .reading) (b .kind) (b .clock) f h .is) l
 
 -- ---- a Delta that was read, taken apart
-pub closed-done : {A : Type 0} (s : List ℕ) (g : Got A) {a : A} → closed s g ≡ done a → (n : ℕ) × (g ≡ got a n)
-unfolding finish
-closed-done {A} s (got b n) {a} e =
-    elim (test (leb (length s) n)) [
-      | inl h ↦
-          let x : done b ≡ done a = rw h at e in
-          let y : b ≡ a = cc in
-          (n, ap (λ (z : A). got z n) y)
-      | inr h ↦
-          let x : refused TrailingBytes ≡ done a = rw h at e in
-          absurd (let z : _≡_ {A = ℕ} 0 1 = cc in omega arith)
-    ]
-closed-done s (bad k) e = absurd (let z : _≡_ {A = ℕ} 0 1 = cc in omega arith)
-
 -- the Delta that fills all of s: its count, and its rows
 pub record DeltaParts (s : List ℕ) (rs : List Row) : Type 0 where
   pub n : ℕ

@@ -12,9 +12,8 @@ use Rattle.error.specs.Answer.{got, bad}
 use Rattle.codec.specs.Reading.{getCount, Part, gotNumber}
 use Rattle.codec.specs.declared.NumberRead.{NumberRead}
 use Rattle.codec.specs.declared.NumberRead.the-variants as read
-use Rattle.codec.proofs.ReadSteps.{on, off, pass, fail, after-got, need-got, value-read, value-refused}
+use Rattle.codec.proofs.ReadSteps.{on, off, pass, fail, after-got, need-got, value-read, value-refused, got-value, got-next}
 use Rattle.codec.proofs.RoundTrip.{count-inside}
-use Rattle.row.proofs.ReadSteps.{got-value, got-next}
 use Rattle.message.specs.Reading.{countWithin, bytesWithin}
 
 -- what a count's reader answers

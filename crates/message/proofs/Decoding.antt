@@ -20,14 +20,13 @@ use Rattle.codec.specs.Reading.{getVarint, getCount, getBytes, Part, partOf}
 use Rattle.codec.specs.Envelopes.{maxFrame, maxSignature, Envelope, readEnvelope, envelopeOf}
 use Rattle.codec.specs.declared.EnvelopeRead.{EnvelopeRead}
 use Rattle.codec.specs.declared.EnvelopeRead.the-variants as envelope
-use Rattle.codec.proofs.ReadSteps.{after-got}
+use Rattle.codec.proofs.ReadSteps.{after-got, got-value, got-next, closed-done}
 use Rattle.codec.proofs.RoundTrip.{count-inside}
 use Rattle.row.specs.Rows.{Row}
 use Rattle.row.specs.Slots.{encodeSlots}
 use Rattle.row.specs.inside.RowParts.{faultOf}
 use Rattle.row.specs.declared.Reading.{Reading}
 use Rattle.row.specs.declared.Reading.the-variants.{Read, Refused}
-use Rattle.row.proofs.ReadSteps.{got-value, got-next}
 use Rattle.log.specs.Areas.{loggedRows}
 use Rattle.message.specs.Messages.{Message, hello, delta, ack, ping, pong}
 use Rattle.message.specs.Reading.{getRows, readMessage, readFrame}
@@ -39,7 +38,7 @@ use Rattle.message.specs.declared.MessageRead.{MessageRead}
 use Rattle.message.specs.declared.MessageRead.the-variants as read
 use Rattle.message.specs.declared.FrameRead.the-variants as frame
 use Rattle.message.specs.declared.reader.BodyGot.{BodyGot}
-use Rattle.message.proofs.Bodies.{closed-done, DeltaParts, delta-parts, rows-count}
+use Rattle.message.proofs.Bodies.{DeltaParts, delta-parts, rows-count}
 
 -- ---- what the body's reader tells
 pub record Told (a : Answer Message) (k : Kind) (c : VectorClock) : Type 0 where

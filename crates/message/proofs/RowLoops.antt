@@ -9,7 +9,7 @@ use Rattle.words.specs.Areas.{putAt}
 use Rattle.words.proofs.Puts.{put-nil, put-put, length-put}
 use Rattle.error.specs.declared.Refusal.{Refusal}
 use Rattle.error.specs.Answer.{nothing, Got, got, bad, after}
-use Rattle.codec.proofs.ReadSteps.{after-got}
+use Rattle.codec.proofs.ReadSteps.{after-got, got-value, got-next}
 use Rattle.row.specs.Rows.{Row, HeldRow, logged}
 use Rattle.row.specs.Slots.{encodeHeld, encodeSlots}
 use Rattle.row.specs.Values.{rowOf, OpFits, endedBy}
@@ -18,7 +18,6 @@ use Rattle.row.specs.declared.StampedOperation.{StampedOperation}
 use Rattle.row.specs.declared.Held.{Held}
 use Rattle.row.specs.declared.Reading.{Reading}
 use Rattle.row.specs.declared.Reading.the-variants.{Read, Refused}
-use Rattle.row.proofs.ReadSteps.{got-value, got-next}
 use Rattle.row.proofs.Operations.{fits-length, slot-put}
 use Rattle.log.specs.Areas.{loggedRows}
 use Rattle.message.specs.Reading.{getSigned, getRows}

@@ -16,21 +16,20 @@ use Rattle.error.specs.declared.Refusal.the-variants.{InvalidTag}
 use Rattle.error.specs.Answer.{Got, got, bad, after}
 use Rattle.clock.specs.Entries.{get, put, enter}
 use Rattle.codec.specs.Reading.{getU8, getVarint}
-use Rattle.codec.proofs.ReadSteps.{after-got}
+use Rattle.codec.proofs.ReadSteps.{after-got, got-value, closed-done}
 use Rattle.codec.proofs.RoundTrip.{varint-read}
 use Rattle.row.specs.Rows.{Row, rowOk}
 use Rattle.row.specs.Reading.{getHead}
 use Rattle.row.proofs.DepsPairs.{DepsOk, deps-rising, deps-words}
 use Rattle.row.proofs.DepsPairs.DepsOk.{none, more}
 use Rattle.row.proofs.ReadRows.{get-head-got, row-built}
-use Rattle.row.proofs.ReadSteps.{got-value}
 use Rattle.log.specs.Store.{clockOk}
 use Rattle.message.specs.Messages.{Message, hello, delta, ack, ping, pong, messageOk}
 use Rattle.message.specs.Reading.{countWithin, bytesWithin, getPair, getPairs, getClock, getSigned, getRows, messageBy, getBody, readMessage, maxDeps, maxOps}
 use Rattle.message.specs.RoundTrip.{ReadWithin, ReadAgain}
 use Rattle.message.proofs.CountedReads.{part-got, count-got}
 use Rattle.message.proofs.ClockPairs.{clock-got}
-use Rattle.message.proofs.Bodies.{closed-done, rows-count}
+use Rattle.message.proofs.Bodies.{rows-count}
 use Rattle.message.proofs.RoundTrip.{message-back}
 
 -- ---- clocks: every author and number is a word

@@ -26,7 +26,7 @@ maxOps = 4096
 abbrev pub maxPayload : ℕ
 maxPayload = 2 ^ 20
 
--- 02: "4 at our capacities (at one field after those)": a count by the Rust's rules, 22 to 24, then 4 where it is above `ours`
+-- 02: "4 at our capacities (at one field after those)": a count by the reader's rules, 22 to 24 and 30, then 4 where it is above `ours`
 unfoldable pub countWithin : (most ours : ℕ) → Bytes → Position → Got ℕ
 countWithin most ours s at = after (getCount s at most) (λ n next. need (leb n ours) OverCapacity (got n next))
 

@@ -8,6 +8,7 @@ pub mod SlotTests
 pub mod WireLengths
 pub mod RowBounds
 pub mod RoundTrip
+pub mod OneSpelling
 pub mod ReadRows
 pub mod ReadSteps
 pub mod DepsLoop

@@ -89,6 +89,9 @@ enum-told-15 c = search needs
 enum-known-r-14 : tie.Need-enum-known-r-14
 enum-known-r-14 c = search needs
 
+enum-told-16 : tie.Need-enum-told-16
+enum-told-16 c = search needs
+
 returns : tie.Need-returns
 returns c = rw (c .enum-told .given .1)
 
@@ -176,6 +179,9 @@ returns-28 c = rw (c .enum-told15 .given .1)
 returns-29 : tie.Need-returns-29
 returns-29 c = rw (c .before .r14 .given .1)
 
+returns-30 : tie.Need-returns-30
+returns-30 c = rw (c .enum-told16 .given .1)
+
 pub first-spec : {M : Type 1} → statement M
 first-spec =
     tie.close
@@ -209,6 +215,7 @@ first-spec =
     enum-told-14
     enum-told-15
     enum-known-r-14
+    enum-told-16
     returns
     returns-2
     returns-3
@@ -237,4 +244,5 @@ first-spec =
     returns-26
     returns-27
     returns-28
-    returns-29)
+    returns-29
+    returns-30)

@@ -89,6 +89,9 @@ enum-told-17 c = search needs
 enum-told-18 : tie.Need-enum-told-18
 enum-told-18 c = search needs
 
+enum-told-19 : tie.Need-enum-told-19
+enum-told-19 c = search needs
+
 returns : tie.Need-returns
 returns c = rw (c .enum-told .given .1)
 
@@ -176,6 +179,9 @@ returns-28 c = rw (c .enum-told17 .given .1)
 returns-29 : tie.Need-returns-29
 returns-29 c = rw (c .enum-told18 .given .1)
 
+returns-30 : tie.Need-returns-30
+returns-30 c = rw (c .enum-told19 .given .1)
+
 pub second-spec : {M : Type 1} → statement M
 second-spec =
     tie.close
@@ -209,6 +215,7 @@ second-spec =
     enum-told-16
     enum-told-17
     enum-told-18
+    enum-told-19
     returns
     returns-2
     returns-3
@@ -237,4 +244,5 @@ second-spec =
     returns-26
     returns-27
     returns-28
-    returns-29)
+    returns-29
+    returns-30)

@@ -5,10 +5,10 @@ use Rattle.vectors.proofs.main.Statement.{statement}
 use Rattle.vectors.proofs.main.Tie as tie
 
 abbrev Inv-loop : tie.InvT-loop
-Inv-loop passed₀ i₀ t3 t4 passed i = (passed ≤ i) × (i ≤ 25)
+Inv-loop passed₀ i₀ t3 t4 passed i = (passed ≤ i) × (i ≤ 26)
 
 abbrev μ-loop : tie.MeasureT-loop
-μ-loop passed₀ i₀ t3 t4 passed i = 25 - i
+μ-loop passed₀ i₀ t3 t4 passed i = 26 - i
 
 loop-holds : tie.Need-loop-holds Inv-loop μ-loop
 loop-holds c = search needs
