@@ -4,6 +4,7 @@ pub mod Overlong
 pub mod VarintLoop
 pub mod WriterLaws
 pub mod RoundTrip
+pub mod LastByte
 pub mod OneSpelling
 pub mod LongerInput
 pub mod ReadParts

@@ -1,61 +1,26 @@
 -- One number has one spelling: what is read as a varint is the shortest sequence of its value. So has an envelope.
-use Prim.Native.Nat.{ℕ, _+_, _-_, _≤_, _<_}
-use mathlib.Core.Path.{_≡_, refl, sym, _∙_, ap}
+use Prim.Native.Nat.{ℕ, _+_, _-_, _≤_}
+use mathlib.Core.Path.{_≡_, sym, _∙_, ap}
 use mathlib.Core.Bool.{_&&_}
-use mathlib.Core.List.{List, [], _∷_, _++_, append-assoc, append-nil}
-use mathlib.Core.Logic.{inl, inr}
+use mathlib.Core.List.{List, _++_, append-assoc, append-nil}
 use native.Mathlib.Omega.{arith}
 use lib.Dec.{leb}
-use lib.ListN.{length, take, drop, getD, length-drop, take-append-drop, drop-of-length-le}
-use lib.Seq.{drop-drop, getD-take, getD-drop, length-take-le}
-use borrow.Author.Tests.{lt-ltb, le-ltb}
+use lib.ListN.{length, take, drop, length-drop, take-append-drop, drop-of-length-le}
+use lib.Seq.{drop-drop, getD-drop, length-take-le}
 use Rattle.words.specs.Be.{AllBytes}
-use Rattle.words.proofs.Words.{lt-or-le}
-use Rattle.error.specs.declared.Refusal.the-variants.{Overlong, TooLarge}
-use Rattle.error.specs.Answer.{got, bad}
-use Rattle.codec.specs.Leb128.{groups, shortest}
-use Rattle.codec.specs.Reading.{getAny, onlyShortest, getVarint, getCount, Part, partOf, getBytes}
+use Rattle.error.specs.declared.Refusal.the-variants.{TooLarge}
+use Rattle.error.specs.Answer.{got}
+use Rattle.codec.specs.Leb128.{shortest}
+use Rattle.codec.specs.Reading.{getVarint, getCount, Part, partOf, getBytes}
 use Rattle.codec.specs.Writing.{sized}
 use Rattle.codec.specs.Envelopes.{maxFrame, maxSignature, envelope, readEnvelope}
 use Rattle.codec.specs.RoundTrip.{OnlyShortest, OneSpelling, EnvelopeWritten}
 use Rattle.codec.proofs.ReadSteps.{by, past, got-value, got-next, closed-done}
-use Rattle.codec.proofs.Overlong.{one-byte, true-overlong, other-last, not-overlong-shortest}
-use Rattle.codec.proofs.RoundTrip.{bytes-at, ReadVarint, any-read, varint-read, varint-short, count-inside}
+use Rattle.codec.proofs.Overlong.{not-overlong-shortest}
+use Rattle.codec.proofs.LastByte.{groups-first}
+use Rattle.codec.proofs.RoundTrip.{bytes-at, ReadVarint, varint-read, varint-short, count-inside}
 
--- the bytes of a number are the list's first
-groups-first : (l : List ℕ) → take (length (groups l)) l ≡ groups l
-unfolding groups
-groups-first [] = refl
-groups-first (b ∷ l) =
-    elim (lt-or-le b 128) [ inl h ↦ rw (lt-ltb b 128 h) | inr h ↦ rw (le-ltb b 128 h) (ap (λ (t : List ℕ). b ∷ t) (groups-first l)) ]
-
--- 1. The test by positions: v was read from `at` to n.
-module _ (s : List ℕ) (at v n : ℕ) (f : getAny s at ≡ got v n) where
-  read : ReadVarint s at v n
-  read = any-read s at v n f
-
-  -- the last byte, in the list
-  last-byte : getD (bytes-at s at) (length (bytes-at s at) - 1) 0 ≡ getD s (n - 1) 0
-  last-byte =
-      let g : List ℕ = bytes-at s at in
-      let i : at + (length g - 1) ≡ n - 1 = omega (arith, read .next, read .onward) in
-      ap (λ (t : List ℕ). getD t (length g - 1) 0) (sym (groups-first (drop at s)))
-      ∙ getD-take (length g) (drop at s) (length g - 1) 0 (omega (arith, read .next, read .onward))
-      ∙ getD-drop at s (length g - 1) 0 ∙ ap (λ (j : ℕ). getD s j 0) i
-
-  pub ends-in-zero : 1 < n - at → getD s (n - 1) 0 ≡ 0 → bad Overlong ≡ onlyShortest (bytes-at s at) v n
-  unfolding onlyShortest
-  ends-in-zero h z = rw (true-overlong (bytes-at s at) (omega (arith, read .next)) (last-byte ∙ z))
-
-  pub one-byte-read : n - at ≤ 1 → got v n ≡ onlyShortest (bytes-at s at) v n
-  unfolding onlyShortest
-  one-byte-read h = rw (one-byte (bytes-at s at) (omega (arith, read .next)))
-
-  pub ends-in-other : (getD s (n - 1) 0 ≡ 0 → ⊥) → got v n ≡ onlyShortest (bytes-at s at) v n
-  unfolding onlyShortest
-  ends-in-other h = rw (other-last (bytes-at s at) (λ z. h (sym last-byte ∙ z)))
-
--- 2. What is read is the shortest sequence of its value.
+-- 1. What is read is the shortest sequence of its value.
 
 -- the bytes x stand from `at` to n
 pub record Stand (s : List ℕ) (at n : ℕ) (x : List ℕ) : Type 0 where
@@ -93,7 +58,7 @@ only-shortest s at v n bs f =
 pub one-spelling : OneSpelling
 one-spelling s t at bt v n m bs ct f g = only-shortest s at v n bs f ∙ sym (only-shortest t bt v m ct g)
 
--- 3. An envelope.
+-- 2. An envelope.
 module _ (s : List ℕ) (bs : AllBytes s) where
   -- bytes, length first
   bytes-stand : (at limit : ℕ) (p : Part) (n : ℕ) → getBytes s at limit ≡ got p n → Stand s at n (sized (partOf s p))

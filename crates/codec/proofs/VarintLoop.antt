@@ -1,7 +1,6 @@
--- One turn of get_any.
+-- One turn of get_within, up to its last byte.
 use Prim.Native.Nat.{ℕ, suc, _+_, _*_, _%_, _^_, _≤_, _<_}
 use mathlib.Core.Logic.{⊎-elim}
-use mathlib.Core.Bool.{Bool, true, false, _&&_}
 use mathlib.Core.Path.{_≡_, refl, _∙_, sym}
 use mathlib.Core.List.{List, [], _∷_}
 use native.Mathlib.Omega.{arith}
@@ -15,6 +14,7 @@ use borrow.Author.Tests.{lt-ltb, le-ltb, le-leb, lt-leb}
 use Rattle.words.specs.Choice.{pick}
 use Rattle.codec.specs.Leb128.{groups, hasLast, valueOf}
 use Rattle.codec.specs.Reading.{judged, judge, getAny}
+use Rattle.codec.proofs.ReadSteps.{and-false}
 use Rattle.error.specs.declared.Refusal.the-variants.{Truncated, VarintOverflow}
 use Rattle.error.specs.Answer.{Got, got, bad}
 
@@ -26,6 +26,7 @@ onward g i n v k = judged (hasLast g) (n + length g) (v + valueOf k g) (i + leng
 pub record Going (s : List ℕ) (at v k i : ℕ) : Type 0 where
   pub n : ℕ
   pub shift : k ≡ 7 * n
+  pub place : i ≡ at + n
   pub few : n ≤ 10
   pub below : v < 2 ^ k
   pub fits : v < 2 ^ 64
@@ -36,7 +37,7 @@ unfolding getAny judge onward
 start s at =
     let e : 0 + length (groups (drop at s)) ≡ length (groups (drop at s)) = omega arith in
     let f : 0 + valueOf 0 (groups (drop at s)) ≡ valueOf 0 (groups (drop at s)) = omega arith in
-    record { n = 0; shift = refl; few = omega arith; below = omega arith; fits = omega arith; same = cc }
+    record { n = 0; shift = refl; place = omega arith; few = omega arith; below = omega arith; fits = omega arith; same = cc }
 
 -- the three ways on, by the byte at i
 next-more : (s : List ℕ) (i : ℕ) → i < length s → 128 ≤ getD s i 0 → groups (drop i s) ≡ getD s i 0 ∷ groups (drop (i + 1) s)
@@ -68,10 +69,6 @@ on-last b i n v k h few fit =
 on-many : (b : ℕ) (g : List ℕ) (i n v k : ℕ) → 10 ≤ n → bad VarintOverflow ≡ onward (b ∷ g) i n v k
 unfolding onward judged
 on-many b g i n v k h = simp (lt-leb (n + suc (length g)) 10 (omega arith))
-
-and-false : (a : Bool) → (a && false) ≡ false
-and-false true = refl
-and-false false = refl
 
 on-big : (b : ℕ) (g : List ℕ) (i n v k : ℕ) → 2 ^ 64 ≤ b % 128 * 2 ^ k → bad VarintOverflow ≡ onward (b ∷ g) i n v k
 unfolding onward judged valueOf
@@ -120,6 +117,7 @@ module _ {s : List ℕ} {at v k i : ℕ} (g : Going s at v k i) where
         record {
           n = g .n + 1;
           shift = omega arith;
+          place = omega arith;
           few = omega arith;
           below = under p v k w (omega arith) (g .below) e;
           fits = fit;

@@ -1,1 +1,2 @@
 pub mod EnvelopeParts
+pub mod NumberParts

@@ -1,7 +1,7 @@
 //! How often readings of messages were accepted, by tag, and refused, by field and number, and what they met; overlong numbers
 //! by tag and field.
 
-use crate::model::messages::{Answer, Fault, Field, Met, NUMBERED};
+use crate::model::messages::{numbered, Answer, Fault, Field, Met};
 use crate::support::{note, Check, Refusing};
 
 /// The fields and their names, in the order of the enum.
@@ -190,10 +190,11 @@ impl Readings {
     /// How often a number of each message was overlong.
     fn overlong(&self, lacking: &mut Vec<String>) -> String {
         let mut overlong = Vec::new();
-        for ((tag, fields), counts) in TAGS.iter().zip(NUMBERED).zip(self.overlong) {
-            let without = fields.iter().filter(|field| counts[**field as usize] == 0);
-            lacking.extend(without.map(|field| format!("30 at the {} of {tag}", name(*field))));
-            overlong.push(format!("{tag} {}", counts.iter().sum::<u64>()));
+        for (tag, counts) in self.overlong.iter().enumerate() {
+            let (message, fields) = (TAGS[tag], numbered(tag).iter());
+            let without = fields.filter(|field| counts[**field as usize] == 0);
+            lacking.extend(without.map(|field| format!("30 at the {} of {message}", name(*field))));
+            overlong.push(format!("{message} {}", counts.iter().sum::<u64>()));
         }
         overlong.join(", ")
     }
@@ -249,10 +250,10 @@ mod tests {
     #[test]
     fn a_field_that_was_never_overlong_is_named() {
         let mut readings = Readings::default();
-        for (tag, fields) in NUMBERED.iter().enumerate() {
-            fields
+        for (tag, counts) in readings.overlong.iter_mut().enumerate() {
+            numbered(tag)
                 .iter()
-                .for_each(|field| readings.overlong[tag][*field as usize] = 1);
+                .for_each(|field| counts[*field as usize] = 1);
         }
         let mut lacking = Vec::new();
         let told = readings.overlong(&mut lacking);

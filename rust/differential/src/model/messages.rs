@@ -55,7 +55,7 @@ pub const ENVELOPE: [Field; 4] = [
     Field::FrameEnd,
 ];
 /// The fields of a body.
-pub const BODY: [Field; 17] = [
+pub static BODY: [Field; 17] = [
     Field::Tag,
     Field::EntryCount,
     Field::EntryAuthor,
@@ -74,24 +74,17 @@ pub const BODY: [Field; 17] = [
     Field::Signature,
     Field::BodyEnd,
 ];
-/// The fields of each message that are numbers, by tag.
-pub const NUMBERED: [&[Field]; 5] = [ENTRIES, ROWS, ENTRIES, &[Field::Nonce], &[Field::Nonce]];
-const ENTRIES: &[Field] = &[Field::EntryCount, Field::EntryAuthor, Field::EntryNumber];
-const ROWS: &[Field] = &[
-    Field::RowCount,
-    Field::Wall,
-    Field::Counter,
-    Field::StampAuthor,
-    Field::Author,
-    Field::Sequence,
-    Field::CauseCount,
-    Field::CauseAuthor,
-    Field::CauseNumber,
-    Field::Payload,
-    Field::Signature,
-];
 /// The lent areas, of which the first is tested before all else and the second after it.
 pub const AREAS: [Field; 2] = [Field::ClockArea, Field::RowsArea];
+
+/// The fields of a message that are numbers, by its tag.
+pub fn numbered(tag: usize) -> &'static [Field] {
+    match tag {
+        0 | 2 => &BODY[1..4],
+        1 => &BODY[5..16],
+        _ => &BODY[4..5],
+    }
+}
 
 impl Field {
     /// The numbers that refuse at the field, in their order.

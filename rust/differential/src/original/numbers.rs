@@ -8,24 +8,46 @@ use crate::leb128::{self, Read, OVERLONG};
 use crate::original;
 use crate::support::{agree, refused, Check, Refusing};
 
+/// A read of a number: the harness's own, the original's and the port's.
+struct Reads {
+    name: &'static str,
+    own: fn(&[u8]) -> Read,
+    original: fn(&[u8], usize) -> NumberRead,
+    port: fn(&[u8], usize) -> NumberRead,
+}
+
+const VARINT: Reads = Reads {
+    name: "get_varint",
+    own: leb128::read,
+    original: original::get_varint,
+    port: sys::get_varint,
+};
+const U32: Reads = Reads {
+    name: "get_u32",
+    own: leb128::read_u32,
+    original: original::get_u32,
+    port: sys::get_u32,
+};
+
 /// The varint at `at`. Gives the number of its refusal, 0 where it is read.
 pub fn same_varint(forms: &mut Forms, s: &[u8], at: usize) -> Result<u64, String> {
-    let inputs = || format!("get_varint of {s:02x?} at {at}");
-    let own = leb128::read(left(s, at));
-    let wanted = forms.wanted(own == Err(OVERLONG), || original::get_varint(s, at));
-    same_number(own, &wanted, s, at, inputs)?;
-    agree(&sys::get_varint(s, at), &wanted, inputs)?;
-    Ok(wanted.told.number)
+    VARINT.same(forms, s, at)
 }
 
 /// The same of at most 32 bits.
 pub fn same_u32(forms: &mut Forms, s: &[u8], at: usize) -> Result<u64, String> {
-    let inputs = || format!("get_u32 of {s:02x?} at {at}");
-    let own = leb128::read_u32(left(s, at));
-    let wanted = forms.wanted(own == Err(OVERLONG), || original::get_u32(s, at));
-    same_number(own, &wanted, s, at, inputs)?;
-    agree(&sys::get_u32(s, at), &wanted, inputs)?;
-    Ok(wanted.told.number)
+    U32.same(forms, s, at)
+}
+
+impl Reads {
+    fn same(&self, forms: &mut Forms, s: &[u8], at: usize) -> Result<u64, String> {
+        let inputs = || format!("{} of {s:02x?} at {at}", self.name);
+        let own = (self.own)(left(s, at));
+        let wanted = forms.wanted(own == Err(OVERLONG), || (self.original)(s, at));
+        same_number(own, &wanted, s, at, inputs)?;
+        agree(&(self.port)(s, at), &wanted, inputs)?;
+        Ok(wanted.told.number)
+    }
 }
 
 /// The count at `at`, and the part whose length it is.
