@@ -1,7 +1,7 @@
 -- What get_within asks of a number behind its last byte: whether it is too large, and whether that byte pads it.
-use Prim.Native.Nat.{ℕ, _+_, _-_, _*_, _^_}
+use Prim.Native.Nat.{ℕ, _+_, _-_, _*_, _^_, _≤_, _<_}
 use mathlib.Core.Path.{_≡_, refl, sym, _∙_, ap}
-use mathlib.Core.Bool.{Bool, _&&_}
+use mathlib.Core.Bool.{true, false, _&&_}
 use mathlib.Core.List.{List, [], _∷_}
 use mathlib.Core.Logic.{inl, inr}
 use native.Mathlib.Omega.{arith}
@@ -11,12 +11,12 @@ use lib.Seq.{getD-take, getD-drop}
 use borrow.Author.Tests.{lt-ltb, le-ltb, le-leb, lt-leb}
 use Rattle.words.proofs.Words.{lt-or-le}
 use Rattle.error.specs.declared.Refusal.{Refusal}
-use Rattle.error.specs.declared.Refusal.the-variants.{VarintOverflow}
+use Rattle.error.specs.declared.Refusal.the-variants.{VarintOverflow, Overlong}
 use Rattle.error.specs.Answer.{Got, got, bad, after, need}
 use Rattle.codec.specs.Leb128.{groups, overlong}
 use Rattle.codec.specs.Reading.{getAny, onlyShortest, getVarint, getU32}
 use Rattle.codec.specs.inside.NumberParts.{within, getWithin}
-use Rattle.codec.proofs.ReadSteps.{on, off, and-true-right, and-false}
+use Rattle.codec.proofs.ReadSteps.{on, off, pass, fail, and-true-right, and-false}
 use Rattle.codec.proofs.Overlong.{one-byte, more-bytes}
 use Rattle.codec.proofs.RoundTrip.{bytes-at, ReadVarint, any-read}
 
@@ -50,9 +50,17 @@ module _ (s : List ℕ) (at v n : ℕ) (f : getAny s at ≡ got v n) where
         | inr h ↦ rw (le-ltb 0 k (omega arith)) (and-false (eqb (getD s i 0) 0) ∙ sym (one-byte (bytes-at s at) (omega (arith, read .next))))
       ]
 
-  pub within-read : (most : ℕ) {padded : Bool} {y : Got ℕ} → padded ≡ overlong (bytes-at s at) → y ≡ within most padded v n → y ≡ getWithin most s at
-  unfolding getWithin
-  within-read most p e = on _ f (rw (← p) e)
+  pub above : (most : ℕ) → most < v → bad VarintOverflow ≡ getWithin most s at
+  unfolding getWithin within
+  above most h = on _ f (fail _ _ (lt-leb v most h))
+
+  pub padded : (most : ℕ) → v ≤ most → overlong (bytes-at s at) ≡ true → bad Overlong ≡ getWithin most s at
+  unfolding getWithin within
+  padded most h o = on _ f (pass _ _ (le-leb v most h) (rw o))
+
+  pub shortest-read : (most : ℕ) → v ≤ most → overlong (bytes-at s at) ≡ false → got v n ≡ getWithin most s at
+  unfolding getWithin within
+  shortest-read most h o = on _ f (pass _ _ (le-leb v most h) (rw o))
 
 pub within-refused : (s : List ℕ) (at most : ℕ) {k : Refusal} → bad k ≡ getAny s at → bad k ≡ getWithin most s at
 unfolding getWithin

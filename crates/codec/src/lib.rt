@@ -15,7 +15,7 @@ ghost use Rattle.codec.specs.Reading.{getU8, getVarint, getU32, getCount
 ghost use Rattle.codec.specs.Writing.{writeCall, writtenOf, sized};
 ghost use Rattle.codec.specs.Envelopes.{envelope, readEnvelope, envelopeOf};
 ghost use Rattle.codec.specs.inside.EnvelopeParts.{room, envelopeLength, Stored, readParts};
-ghost use Rattle.codec.specs.inside.NumberParts.{within, getWithin};
+ghost use Rattle.codec.specs.inside.NumberParts.{getWithin};
 ghost use Rattle.error.specs.Answer.{ends};
 
 // Largest accepted frame or body, in bytes.
@@ -153,19 +153,6 @@ fn is_padding(byte: u8, shift: u32) -> bool
     byte == 0 && shift > 0
 }
 
-// The number that was read up to `next`, unless it is above `most` or its last byte pads it.
-fn within(most: u64, padded: bool, value: u64, next: usize) -> NumberRead
-    ensures { λ r. ⌜ gotNumber r ≡ within most padded value next ⌝ }
-{
-    if value > most {
-        return NumberRead::Refused(Refusal::VarintOverflow);
-    }
-    if padded {
-        return NumberRead::Refused(Refusal::Overlong);
-    }
-    NumberRead::Value { value, next }
-}
-
 // The varint at `at`, of at most ten bytes and 64 bits, at most `most` and in its shortest form.
 fn get_within(s: &[u8], at: usize, most: u64) -> NumberRead
     ensures { λ r. ⌜ gotNumber r ≡ getWithin most (now (s .entry)) at ⌝ }
@@ -185,7 +172,13 @@ fn get_within(s: &[u8], at: usize, most: u64) -> NumberRead
         value = with_group(value, part, shift);
         i += 1;
         if is_last(byte) {
-            return within(most, is_padding(byte, shift), value, i);
+            if value > most {
+                return NumberRead::Refused(Refusal::VarintOverflow);
+            }
+            if is_padding(byte, shift) {
+                return NumberRead::Refused(Refusal::Overlong);
+            }
+            return NumberRead::Value { value, next: i };
         }
         shift += 7;
     }

@@ -6,7 +6,7 @@ use lib.ListN.{length}
 use borrow.Author.Needs.{needs}
 use borrow.Author.Tests.{ltb-true, ltb-false}
 use Rattle.codec.proofs.VarintLoop.{Going, start, ended, many, big, room, last, again}
-use Rattle.codec.proofs.LastByte.{padding, within-read, within-refused}
+use Rattle.codec.proofs.LastByte.{padding, above, padded, shortest-read, within-refused}
 use Rattle.codec.proofs.get_within.Statement.{statement}
 use Rattle.codec.proofs.get_within.Tie as tie
 
@@ -42,19 +42,32 @@ add-i c = search needs
 is-last-requires : tie.Need-is-last-requires Inv-loop μ-loop
 is-last-requires c κs = search needs
 
+returns-3 : tie.Need-returns-3 Inv-loop μ-loop
+returns-3 c =
+    let at = c .before .before .before in
+    let going = at .before .before .before .before .before .before .loop .inv in
+    let read =
+    sym (last going (at .before .before .group .result) (at .with-group .result) (omega arith) (omega arith) (search needs) (search needs) (omega arith) (ltb-true _ _ (sym (c .before .before .is-last .ensures) ∙ c .before .if4 .taken))) in
+    above _ _ _ _ read _ (omega arith)
+
 is-padding-requires : tie.Need-is-padding-requires Inv-loop μ-loop
 is-padding-requires c κs = search needs
 
-within-requires : tie.Need-within-requires Inv-loop μ-loop
-within-requires c κs = search needs
-
-returns-3 : tie.Need-returns-3 Inv-loop μ-loop
-returns-3 c =
-    let at = c .before .before .before .before in
+returns-4 : tie.Need-returns-4 Inv-loop μ-loop
+returns-4 c =
+    let at = c .before .before .before .before .before in
     let going = at .before .before .before .before .before .before .loop .inv in
     let read =
-    sym (last going (at .before .before .group .result) (at .with-group .result) (omega arith) (omega arith) (search needs) (search needs) (omega arith) (ltb-true _ _ (sym (c .before .before .before .is-last .ensures) ∙ c .before .before .if4 .taken))) in
-    within-read _ _ _ _ read _ (c .before .is-padding .ensures ∙ padding _ _ _ _ read _ (going .n) _ refl (going .place) (going .shift)) (c .within .ensures)
+    sym (last going (at .before .before .group .result) (at .with-group .result) (omega arith) (omega arith) (search needs) (search needs) (omega arith) (ltb-true _ _ (sym (c .before .before .before .before .is-last .ensures) ∙ c .before .before .before .if4 .taken))) in
+    padded _ _ _ _ read _ (omega arith) (sym (padding _ _ _ _ read _ (going .n) _ refl (going .place) (going .shift)) ∙ sym (c .before .is-padding .ensures) ∙ c .if6 .taken)
+
+returns-5 : tie.Need-returns-5 Inv-loop μ-loop
+returns-5 c =
+    let at = c .before .before .before .before .before in
+    let going = at .before .before .before .before .before .before .loop .inv in
+    let read =
+    sym (last going (at .before .before .group .result) (at .with-group .result) (omega arith) (omega arith) (search needs) (search needs) (omega arith) (ltb-true _ _ (sym (c .before .before .before .before .is-last .ensures) ∙ c .before .before .before .if4 .taken))) in
+    shortest-read _ _ _ _ read _ (omega arith) (sym (padding _ _ _ _ read _ (going .n) _ refl (going .place) (going .shift)) ∙ sym (c .before .is-padding .ensures) ∙ c .if6 .left)
 
 add-shift : tie.Need-add-shift Inv-loop μ-loop
 add-shift c = search needs
@@ -65,8 +78,8 @@ loop-less c = search needs
 loop-again : tie.Need-loop-again Inv-loop μ-loop
 loop-again c = again (c .before .before .before .before .before .before .before .before .loop .inv) (c .before .before .before .before .group .result) _ (omega arith) (omega arith) (search needs) (search needs) (omega arith) (ltb-false _ _ (sym (c .before .is-last .ensures) ∙ c .if4 .left))
 
-returns-4 : tie.Need-returns-4 Inv-loop μ-loop
-returns-4 c = within-refused _ _ _ (ended (c .before .loop .inv) (search needs))
+returns-6 : tie.Need-returns-6 Inv-loop μ-loop
+returns-6 c = within-refused _ _ _ (ended (c .before .loop .inv) (search needs))
 
 pub get-within-spec : {M : Type 1} → statement M
 get-within-spec =
@@ -82,10 +95,11 @@ get-within-spec =
     with-group-requires
     add-i
     is-last-requires
-    is-padding-requires
-    within-requires
     returns-3
+    is-padding-requires
+    returns-4
+    returns-5
     add-shift
     loop-less
     loop-again
-    returns-4)
+    returns-6)
