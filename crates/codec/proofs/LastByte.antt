@@ -15,7 +15,7 @@ use Rattle.error.specs.declared.Refusal.the-variants.{VarintOverflow, Overlong}
 use Rattle.error.specs.Answer.{Got, got, bad, after, need}
 use Rattle.codec.specs.Leb128.{groups, overlong}
 use Rattle.codec.specs.Reading.{getAny, onlyShortest, getVarint, getU32}
-use Rattle.codec.specs.inside.NumberParts.{within, getWithin}
+use Rattle.codec.specs.inside.NumberParts.{getWithin}
 use Rattle.codec.proofs.ReadSteps.{on, off, pass, fail, and-true-right, and-false}
 use Rattle.codec.proofs.Overlong.{one-byte, more-bytes}
 use Rattle.codec.proofs.RoundTrip.{bytes-at, ReadVarint, any-read}
@@ -51,15 +51,15 @@ module _ (s : List ℕ) (at v n : ℕ) (f : getAny s at ≡ got v n) where
       ]
 
   pub above : (most : ℕ) → most < v → bad VarintOverflow ≡ getWithin most s at
-  unfolding getWithin within
+  unfolding getWithin
   above most h = on _ f (fail _ _ (lt-leb v most h))
 
   pub padded : (most : ℕ) → v ≤ most → overlong (bytes-at s at) ≡ true → bad Overlong ≡ getWithin most s at
-  unfolding getWithin within
+  unfolding getWithin onlyShortest
   padded most h o = on _ f (pass _ _ (le-leb v most h) (rw o))
 
   pub shortest-read : (most : ℕ) → v ≤ most → overlong (bytes-at s at) ≡ false → got v n ≡ getWithin most s at
-  unfolding getWithin within
+  unfolding getWithin onlyShortest
   shortest-read most h o = on _ f (pass _ _ (le-leb v most h) (rw o))
 
 pub within-refused : (s : List ℕ) (at most : ℕ) {k : Refusal} → bad k ≡ getAny s at → bad k ≡ getWithin most s at
@@ -68,8 +68,7 @@ within-refused s at most e = off _ (sym e)
 
 -- of 64 bits and of 32
 within-64 : (s : List ℕ) (at : ℕ) (g : Got ℕ) → g ≡ getAny s at
-    → after g (λ v next. within (2 ^ 64 - 1) (overlong (bytes-at s at)) v next) ≡ after g (λ v next. onlyShortest (bytes-at s at) v next)
-unfolding within onlyShortest
+    → after g (λ v next. need (leb v (2 ^ 64 - 1)) VarintOverflow (onlyShortest (bytes-at s at) v next)) ≡ after g (λ v next. onlyShortest (bytes-at s at) v next)
 within-64 s at (got v n) e = rw (le-leb v (2 ^ 64 - 1) (omega (arith, any-read s at v n (sym e) .fits)))
 within-64 s at (bad k) e = refl
 
@@ -85,9 +84,8 @@ below-32 v =
     ]
 
 within-32 : (s : List ℕ) (at : ℕ) (g : Got ℕ)
-    → after g (λ v next. within (2 ^ 32 - 1) (overlong (bytes-at s at)) v next)
+    → after g (λ v next. need (leb v (2 ^ 32 - 1)) VarintOverflow (onlyShortest (bytes-at s at) v next))
     ≡ after g (λ v next. need (ltb v (2 ^ 32)) VarintOverflow (onlyShortest (bytes-at s at) v next))
-unfolding within onlyShortest
 within-32 s at (got v n) = rw (below-32 v)
 within-32 s at (bad k) = refl
 

@@ -47,7 +47,7 @@ pub true-overlong : (g : List ℕ) → 1 < length g → final g ≡ 0 → overlo
 true-overlong g h z = more-bytes g h ∙ eq-eqb (final g) 0 z
 
 -- a sequence that ends in another byte than 0
-pub other-last : (g : List ℕ) → (final g ≡ 0 → ⊥) → overlong g ≡ false
+other-last : (g : List ℕ) → (final g ≡ 0 → ⊥) → overlong g ≡ false
 other-last g h =
     elim (lt-or-le 1 (length g)) [ inl l ↦ more-bytes g l ∙ ne-eqb (final g) 0 h | inr l ↦ one-byte g l ]
 
