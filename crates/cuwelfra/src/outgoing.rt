@@ -1,10 +1,12 @@
-// The cutoff, the delta and its chunks: crates gc and sync.
+// The cutoff, the delta, its chunks and what they send: crates gc and sync.
 use crate::store::StampTold;
 use crate::vector::ClockTold;
+use stubs::ActorId;
 ghost use mathlib.Core.Path.{_≡_};
 ghost use Rattle.log.specs.Areas.{areas};
 ghost use Rattle.gc.specs.Cutoff.{cutoffCall};
 ghost use Rattle.sync.specs.Delta.{deltaCall, chunkCall};
+ghost use Rattle.sync.specs.Sizes.{sizesCall};
 ghost use Rattle.cuwelfra.specs.Stores.{stampTold};
 ghost use Rattle.cuwelfra.specs.Vectors.{countTold};
 ghost use Rattle.cuwelfra.specs.Exports.{exported};
@@ -56,6 +58,34 @@ pub extern "C" fn cuwelfra_chunk_ops(
         peer,
         max_per_chunk,
         max_bytes,
+        output,
+    ))
+}
+
+// The rows of each of those chunks, and the bytes of the envelope in which `sender` sends it.
+#[no_mangle]
+pub extern "C" fn cuwelfra_delta_sizes(
+    log: &[u8],
+    held: &[u8],
+    head: &[u8],
+    peer: &[u8],
+    max_per_chunk: u64,
+    max_bytes: u64,
+    sender: u64,
+    sig_len: u64,
+    output: &mut [u8],
+) -> ClockTold
+    ensures { λ r. ⌜ (r, now (output .exit)) ≡ exported countTold (sizesCall (areas (now (log .entry)) (now (held .entry)) (now (head .entry))) (now (peer .entry)) «max_per_chunk» «max_bytes» sender «sig_len» (now (output .entry))) ⌝ }
+{
+    crate::vector::clock_told(sync::delta_sizes(
+        log,
+        held,
+        head,
+        peer,
+        max_per_chunk,
+        max_bytes,
+        ActorId(sender),
+        sig_len,
         output,
     ))
 }

@@ -30,7 +30,7 @@ use Rattle.message.specs.Calls.{lentRows, encodeDelta}
 use Rattle.message.proofs.TaggedWrites.{tag-room, behind-room, tagged}
 
 -- ---- the bytes of the first rows
-bytes-append : (rs qs : List Row) → rowsBytes (rs ++ qs) ≡ rowsBytes rs ++ rowsBytes qs
+pub bytes-append : (rs qs : List Row) → rowsBytes (rs ++ qs) ≡ rowsBytes rs ++ rowsBytes qs
 unfolding rowsBytes
 bytes-append [] qs = refl
 bytes-append (r ∷ rs) qs = rw (bytes-append rs qs) (sym (append-assoc (signedBytes r) (rowsBytes rs) (rowsBytes qs)))

@@ -1,10 +1,9 @@
 -- What the delta's positions and the chunks are, for every log, clock and limit.
 use Prim.Native.Nat.{ℕ, zero, suc, _+_, _≤_, _<_}
 use mathlib.Core.Path.{_≡_, refl, sym, _∙_, ap}
-use mathlib.Core.Bool.{Bool, true, false, not, _&&_, _||_}
+use mathlib.Core.Bool.{true, false}
 use mathlib.Core.Logic.{_⊎_, inl, inr}
-use mathlib.Core.List.{List, [], _∷_, _++_, append-assoc, append-nil}
-use native.Mathlib.Nat.{add-zero}
+use mathlib.Core.List.{List, [], _∷_, _++_, append-assoc}
 use native.Mathlib.Omega.{arith}
 use lib.Dec.{eqb, ltb}
 use lib.ListN.{length, length-append}
@@ -38,12 +37,12 @@ unfolding delta deltaRows
 delta-length peer i [] = refl
 delta-length peer i (r ∷ rs) = elim (test (unseen peer r)) [ inl e ↦ rw e (ap suc (delta-length peer (i + 1) rs)) | inr e ↦ rw e (delta-length peer (i + 1) rs) ]
 
-sizes-append : (x y : List Row) → sizes (x ++ y) ≡ sizes x + sizes y
+pub sizes-append : (x y : List Row) → sizes (x ++ y) ≡ sizes x + sizes y
 unfolding sizes
 sizes-append [] y = omega arith
 sizes-append (r ∷ x) y = omega (arith, sizes-append x y)
 
-sizes-one : (r : Row) → sizes (r ∷ []) ≡ rowSize r
+pub sizes-one : (r : Row) → sizes (r ∷ []) ≡ rowSize r
 unfolding sizes
 sizes-one r = omega arith
 

@@ -1,1 +1,2 @@
 pub mod DeltaSteps
+pub mod SizeSteps

@@ -1,4 +1,4 @@
-// The delta in chunks: how many rows each holds.
+// The delta in chunks: how many there are, and how many rows each holds.
 use crate::scan::is_missing;
 use clock::vector::VectorClock;
 use row::raw::read_slot;
@@ -36,7 +36,7 @@ fn row_size(rows: &[u8], at: usize) -> u64
 }
 
 // Whether a row that would make the current chunk's n rows `size` bytes long starts the next chunk.
-fn starts_next(n: u64, most: u64, max_bytes: u64, size: u64) -> bool
+pub(crate) fn starts_next(n: u64, most: u64, max_bytes: u64, size: u64) -> bool
     ensures { λ r. ⌜ r ≡ startsNext most «max_bytes» n size ⌝ }
 {
     if n == 0 {
@@ -57,7 +57,7 @@ pub(crate) fn write_chunks(
     max_bytes: u64,
     output: &mut [u8],
 ) -> usize
-    requires { ⌜ Ready (now rows) n clock (now output) ⌝ }
+    requires { ⌜ Ready (now rows) n clock × (8 * n ≤ length (now output)) ⌝ }
     ensures { λ r. ⌜ Puts (now (output .entry)) (chunks most «max_bytes» 0 0 (deltaRows (entries clock) (rowsIn (now (rows .entry)) n))) r (now (output .exit)) ⌝ }
 {
     let mut i: usize = 0;
@@ -85,5 +85,42 @@ pub(crate) fn write_chunks(
         return k;
     }
     put_word(output, 8 * k, count);
+    k + 1
+}
+
+// How many chunks there are of the missing rows among the first n.
+pub(crate) fn count_chunks(
+    rows: &[u8],
+    n: usize,
+    clock: VectorClock,
+    most: u64,
+    max_bytes: u64,
+) -> usize
+    requires { ⌜ Ready (now rows) n clock ⌝ }
+    ensures { λ r. ⌜ r ≡ length (chunks most «max_bytes» 0 0 (deltaRows (entries clock) (rowsIn (now (rows .entry)) n))) ⌝ }
+{
+    let mut i: usize = 0;
+    let mut k: usize = 0;
+    let mut count: u64 = 0;
+    let mut size: u64 = 0;
+    while i < n {
+        let at = 704 * i;
+        i += 1;
+        if !is_missing(rows, at, clock) {
+            continue;
+        }
+        let row = row_size(rows, at);
+        if starts_next(count, most, max_bytes, size + row) {
+            k += 1;
+            count = 1;
+            size = row;
+            continue;
+        }
+        count += 1;
+        size += row;
+    }
+    if count == 0 {
+        return k;
+    }
     k + 1
 }

@@ -1,9 +1,10 @@
-use mathlib.Core.Path.{_≡_, refl, sym, _∙_, ap}
+use mathlib.Core.Path.{refl, sym, _∙_, ap}
 use native.Mathlib.Omega.{arith}
 use Rattle.clock.specs.Vector.{numberAnswer}
 use denote.Ref.{now}
 use Rattle.log.specs.Areas.{areas}
-use Rattle.sync.proofs.CallTests.{counted, ready, chunks-refused, chunks-done}
+use Rattle.sync.specs.Delta.{chunkCall}
+use Rattle.sync.proofs.CallTests.{counted, ready, list-refused, list-short, chunks-done}
 use borrow.Author.Needs.{needs}
 use Rattle.sync.proofs.chunk_ops.Statement.{statement}
 use Rattle.sync.proofs.chunk_ops.Tie as tie
@@ -17,31 +18,41 @@ enum-known-told c = search needs
 enum-known-told-2 : tie.Need-enum-known-told-2
 enum-known-told-2 c = search needs
 
+returns : tie.Need-returns
+unfolding chunkCall
+returns c =
+    let at = c .before .before in
+    list-short _ _ _ _ _ _ (counted _ _ _ (sym (ap numberAnswer (at .told2 .given .1)) ∙ at .before .before .count-rows .ensures)) (c .if1 .taken) refl
+
 load-clock-requires : tie.Need-load-clock-requires
 load-clock-requires c κs =
-    let args = c .before .before .before .before .before .before .before .before .before .args in
-    omega (arith, (counted (areas (now (args .rows)) (now (args .held)) (now (args .head))) _ _ _ (sym (ap numberAnswer (c .before .told2 .given .1)) ∙ c .before .before .before .count-rows .ensures)) .long)
+    let at = c .before .before in
+    let args = at .before .before .before .before .before .before .before .before .args in
+    omega (arith, (counted (areas (now (args .rows)) (now (args .held)) (now (args .head))) _ _ (sym (ap numberAnswer (at .told2 .given .1)) ∙ at .before .before .count-rows .ensures)) .long)
 
 at-least-one-requires : tie.Need-at-least-one-requires
 at-least-one-requires c κs = search needs
 
 write-chunks-requires : tie.Need-write-chunks-requires
 write-chunks-requires c κs =
-    let at = c .before .before .before .before .before .before in
-    let args = at .before .before .before .before .before .before .args in
-    ready (areas (now (args .rows)) (now (args .held)) (now (args .head))) _ _ _ _ (counted (areas (now (args .rows)) (now (args .held)) (now (args .head))) _ _ _ (sym (ap numberAnswer (c .before .before .before .before .told2 .given .1)) ∙ at .count-rows .ensures)) (c .before .before .load-clock .ensures)
+    let at = c .before .before .before .before .before in
+    let args = at .before .before .before .before .before .before .before .before .args in
+    let k = counted (areas (now (args .rows)) (now (args .held)) (now (args .head))) _ _ (sym (ap numberAnswer (at .told2 .given .1)) ∙ at .before .before .count-rows .ensures) in
+    (ready (areas (now (args .rows)) (now (args .held)) (now (args .head))) _ _ _ k (c .before .before .load-clock .ensures), omega (arith, c .before .before .before .if1 .left))
 
-returns : tie.Need-returns
-returns c = chunks-refused _ _ _ _ _ _ _ (sym (ap numberAnswer (c .before .told .given .1)) ∙ c .before .before .before .count-rows .ensures) refl
+returns-2 : tie.Need-returns-2
+unfolding chunkCall
+returns-2 c = list-refused _ _ _ _ _ _ (sym (ap numberAnswer (c .before .told .given .1)) ∙ c .before .before .before .count-rows .ensures) refl
 
 same-length : tie.Need-same-length
 same-length c = search needs
 
-returns-2 : tie.Need-returns-2
-returns-2 c =
-    let at = c .before .before .before .before .before .before .before in
+returns-3 : tie.Need-returns-3
+returns-3 c =
+    let at = c .before .before .before .before .before .before .before .before in
     let args = at .before .before .before .before .before .before .before .before .args in
-    chunks-done _ _ _ _ _ _ _ (counted (areas (now (args .rows)) (now (args .held)) (now (args .head))) _ _ _ (sym (ap numberAnswer (at .told2 .given .1)) ∙ at .before .before .count-rows .ensures)) (c .before .before .before .before .before .load-clock .ensures) _ _ _ (c .before .before .before .before .at-least-one .ensures) (c .before .before .write-chunks .ensures)
+    let k = counted (areas (now (args .rows)) (now (args .held)) (now (args .head))) _ _ (sym (ap numberAnswer (at .told2 .given .1)) ∙ at .before .before .count-rows .ensures) in
+    chunks-done _ _ _ _ _ _ _ k (c .before .before .before .before .before .load-clock .ensures) (omega (arith, c .before .before .before .before .before .before .if1 .left)) _ _ _ (c .before .before .before .before .at-least-one .ensures) (c .before .before .write-chunks .ensures)
 
 pub chunk-ops-spec : {M : Type 1} → statement M
 chunk-ops-spec =
@@ -50,9 +61,10 @@ chunk-ops-spec =
     count-rows-requires
     enum-known-told
     enum-known-told-2
+    returns
     load-clock-requires
     at-least-one-requires
     write-chunks-requires
-    returns
+    returns-2
     same-length
-    returns-2)
+    returns-3)

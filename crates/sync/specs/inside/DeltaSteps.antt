@@ -1,36 +1,35 @@
 -- What the steps of a call over a store and a peer's clock answer. Inside: need not be believed.
-use Prim.Native.Nat.{ℕ, _*_, _≤_}
+use Prim.Native.Nat.{ℕ, _≤_}
 use mathlib.Core.Path.{_≡_}
 use mathlib.Core.Bool.{Bool, true, not, _&&_, _||_}
 use mathlib.Core.List.{List}
 use lib.ListN.{length}
-use lib.Dec.{ltb, leb, eqb}
+use lib.Dec.{ltb, eqb}
 use Rattle.words.specs.Names.{Area}
-use Rattle.words.specs.Sizes.{wordSize, clockSize, mostLogged}
+use Rattle.words.specs.Sizes.{mostLogged}
 use Rattle.words.specs.Be.{bes}
 use Rattle.words.specs.Areas.{putAt}
-use Rattle.error.specs.declared.Refusal.the-variants.{ShortArea}
-use Rattle.error.specs.Answer.{Answer, done, andThen, unless}
+use Rattle.error.specs.Answer.{Answer, done, andThen}
 use Rattle.clock.specs.declared.vector.VectorClock.{VectorClock}
 use Rattle.clock.specs.Vector.{sound}
-use Rattle.log.specs.Areas.{Areas, readStore}
+use Rattle.log.specs.Areas.{Areas}
 use Rattle.log.specs.Calls.{readClock}
 use Rattle.log.specs.inside.StoreTests.{SlotsOk}
+use Rattle.sync.specs.Delta.{overPeer}
 
--- n logged rows, where the peer's clock is sound and there is room for a word for each
-unfoldable pub countOf : (n : ℕ) (peer : Area) (room : ℕ) → Answer ℕ
-countOf n peer room = andThen (readClock peer) (λ es. unless (leb (wordSize * n) room) ShortArea (done n))
+-- n logged rows, where the peer's clock is sound
+unfoldable pub countOf : (n : ℕ) (peer : Area) → Answer ℕ
+countOf n peer = andThen (readClock peer) (λ es. done n)
 
 -- the tests of a call over a store and a peer's clock: how many rows are logged
-unfoldable pub countCall : Areas → (peer : Area) (room : ℕ) → Answer ℕ
-countCall a peer room = unless (leb clockSize (length peer)) ShortArea (andThen (readStore a) (λ s. countOf (length (s .log)) peer room))
+unfoldable pub countCall : Areas → (peer : Area) → Answer ℕ
+countCall a peer = overPeer a peer (λ s es. done (length (s .log)))
 
--- what the tests leave for the loops: readable slots, a sound clock, room
-pub record Ready (log : Area) (n : ℕ) (clock : VectorClock) (output : Area) : Type 0 where
+-- what the tests leave for the loops: readable slots and a sound clock
+pub record Ready (log : Area) (n : ℕ) (clock : VectorClock) : Type 0 where
   pub slots : SlotsOk log n
   pub few : n ≤ mostLogged
   pub clock-ok : sound clock ≡ true
-  pub room : wordSize * n ≤ length output
 
 -- k numbers are written
 pub record Puts (output : Area) (ns : List ℕ) (k : ℕ) (left : Area) : Type 0 where

@@ -1,6 +1,6 @@
 use borrow.Author.Needs.{needs}
-use Prim.Native.Nat.{_+_, _-_, _*_, _≤_, _<_}
-use mathlib.Core.Path.{_≡_, refl, sym, _∙_, ap}
+use Prim.Native.Nat.{_-_}
+use mathlib.Core.Path.{sym, _∙_}
 use native.Mathlib.Omega.{arith}
 use borrow.Author.Tests.{not-true, not-false}
 use Rattle.clock.specs.Vector.{entries}
@@ -24,7 +24,7 @@ add-i : tie.Need-add-i Inv-loop μ-loop
 add-i c = search needs
 
 is-missing-requires : tie.Need-is-missing-requires Inv-loop μ-loop
-is-missing-requires c κs = (c .before .before .before .before .pre .slots (c .before .loop .i) (c .loop-test .taken), c .before .before .before .before .pre .clock-ok)
+is-missing-requires c κs = (c .before .before .before .before .pre .0 .slots (c .before .loop .i) (c .loop-test .taken), c .before .before .before .before .pre .0 .clock-ok)
 
 loop-less : tie.Need-loop-less Inv-loop μ-loop
 loop-less c = search needs
@@ -33,7 +33,7 @@ loop-again : tie.Need-loop-again Inv-loop μ-loop
 loop-again c = chunking-skip _ _ _ _ _ _ _ (c .before .before .before .loop .i) _ _ _ (c .before .before .before .loop .inv) (c .before .before .loop-test .taken) (sym (not-true _ (c .if1 .taken)) ∙ c .before .is-missing .ensures)
 
 row-size-requires : tie.Need-row-size-requires Inv-loop μ-loop
-row-size-requires c κs = c .before .before .before .before .before .before .pre .slots (c .before .before .before .loop .i) (c .before .before .loop-test .taken)
+row-size-requires c κs = c .before .before .before .before .before .before .pre .0 .slots (c .before .before .before .loop .i) (c .before .before .loop-test .taken)
 
 add-starts-next : tie.Need-add-starts-next Inv-loop μ-loop
 add-starts-next c = search needs
@@ -57,7 +57,7 @@ loop-again-2 : tie.Need-loop-again-2 Inv-loop μ-loop
 loop-again-2 c =
     let at = c .before .before .before .before .before .before in
     let at₂ = at .before .before .before .before in
-    chunking-put _ _ _ _ _ _ _ (at₂ .loop .i) (at₂ .loop .k) (at₂ .loop .count) (at₂ .loop .size) (at₂ .loop .inv) (at .before .before .before .loop-test .taken) (sym (not-false _ (at .before .if1 .left)) ∙ at .before .before .is-missing .ensures) _ (at .row-size .ensures .0) (at .row-size .ensures .1) _ (sym (c .before .before .before .before .if2 .taken) ∙ c .before .before .before .before .before .starts-next .ensures) (at₂ .before .before .before .pre .room) (c .before .before .put-word .ensures)
+    chunking-put _ _ _ _ _ _ _ (at₂ .loop .i) (at₂ .loop .k) (at₂ .loop .count) (at₂ .loop .size) (at₂ .loop .inv) (at .before .before .before .loop-test .taken) (sym (not-false _ (at .before .if1 .left)) ∙ at .before .before .is-missing .ensures) _ (at .row-size .ensures .0) (at .row-size .ensures .1) _ (sym (c .before .before .before .before .if2 .taken) ∙ c .before .before .before .before .before .starts-next .ensures) (at₂ .before .before .before .pre .1) (c .before .before .put-word .ensures)
 
 add-count : tie.Need-add-count Inv-loop μ-loop
 add-count c = search needs
@@ -94,7 +94,7 @@ same-length-2 c = search needs
 returns-2 : tie.Need-returns-2 Inv-loop μ-loop
 returns-2 c =
     let at = c .before .before .before .before .before .before in
-    chunking-last _ _ _ _ _ _ _ (at .loop .i) (at .loop .k) (at .loop .count) _ (at .loop .inv) _ (omega (arith, c .before .before .before .before .before .loop-test .left)) (c .before .before .before .before .if3 .left) (at .before .before .before .pre .room) (c .before .before .put-word2 .ensures)
+    chunking-last _ _ _ _ _ _ _ (at .loop .i) (at .loop .k) (at .loop .count) _ (at .loop .inv) _ (omega (arith, c .before .before .before .before .before .loop-test .left)) (c .before .before .before .before .if3 .left) (at .before .before .before .pre .1) (c .before .before .put-word2 .ensures)
 
 pub write-chunks-spec : {M : Type 1} → statement M
 write-chunks-spec =
