@@ -1,4 +1,4 @@
-// From src/sync.rs: what a peer is missing, and in which chunks it goes out.
+// From src/sync.rs: what a peer is missing, in which chunks it goes out, and how much they send.
 mod chunk; // the delta in chunks
 mod scan; // the rows that a peer has not seen
 mod sizes; // the rows and the bytes of each chunk
