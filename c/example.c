@@ -895,6 +895,14 @@ static void rows_of_its_own(void)
 
 /* ---- What a peer lacks, and the record of a peer */
 
+/* A peer that has author 3's row, which stands first at the desk, and lacks the other two. */
+static void make_peer(uint8_t *peer, size_t peer_len)
+{
+    make_desk();
+    ACCEPTED(cuwelfra_clock_new(peer, peer_len));
+    ACCEPTED(cuwelfra_clock_observe(peer, peer_len, 3, 1));
+}
+
 static void deltas(void)
 {
     static const uint8_t positions[] = {0, 0, 0, 0, 0, 0, 0, 1, 0, 0, 0, 0, 0, 0, 0, 2};
@@ -904,10 +912,7 @@ static void deltas(void)
     uint8_t out[3 * 8];
     cuwelfra_clock_number number;
 
-    /* The peer has author 3's row, which stands first. */
-    make_desk();
-    ACCEPTED(cuwelfra_clock_new(peer, sizeof peer));
-    ACCEPTED(cuwelfra_clock_observe(peer, sizeof peer, 3, 1));
+    make_peer(peer, sizeof peer);
     memset(out, 0x5A, sizeof out);
     number = cuwelfra_calculate_delta(AREAS(desk), peer, sizeof peer, out, sizeof out);
     ACCEPTED(number.told);
@@ -920,6 +925,61 @@ static void deltas(void)
     IS(cuwelfra_chunk_ops(AREAS(desk), peer, sizeof peer, 10, 1000, out, sizeof out).number, 1);
     STARTS(out, both);
     REFUSED(cuwelfra_calculate_delta(AREAS(desk), peer, sizeof peer, out, sizeof out - 1).told, SHORT_AREA, 0, 0);
+}
+
+/* The bytes of those chunks as messages, from sender 300, which takes two bytes. The rows as batches have them, but for
+   their last three bytes, take 13 bytes (author 1's) and 16 (author 2's); a body begins with its tag and the count. */
+static void sizes(void)
+{
+    static const uint8_t one_each[] = {
+        0, 0, 0, 0, 0, 0, 0, 1, 0, 0, 0, 0, 0, 0, 0, 83, /* a row: 2 + 1 + (2 + 13) + 1 + 64 bytes */
+        0, 0, 0, 0, 0, 0, 0, 1, 0, 0, 0, 0, 0, 0, 0, 86, /* a row: 2 + 1 + (2 + 16) + 1 + 64 bytes */
+    };
+    static const uint8_t both[] = {
+        0, 0, 0, 0, 0, 0, 0, 2, 0, 0, 0, 0, 0, 0, 0x04, 0x24, /* two rows: 2 + 1 + (2 + 13 + 16) + 2 + 1,024 bytes */
+    };
+    static const uint8_t sig[1024] = {0};
+    uint8_t peer[CUWELFRA_CLOCK_BYTES];
+    uint8_t out[3 * 16];
+    uint8_t body[64];
+    uint8_t frame[2048];
+    cuwelfra_clock_number number;
+    cuwelfra_written written;
+
+    make_peer(peer, sizeof peer);
+    memset(out, 0x5A, sizeof out);
+    number = cuwelfra_delta_sizes(AREAS(desk), peer, sizeof peer, 1, 1000, 300, 64, out, sizeof out);
+    ACCEPTED(number.told);
+    IS(number.number, 2);
+    STARTS(out, one_each);
+    ALL_FROM(out, sizeof one_each, 0x5A);
+
+    /* 16 bytes for each chunk are enough. These are the bytes of the frame that is then written. */
+    memset(out, 0x5A, sizeof out);
+    IS(cuwelfra_delta_sizes(AREAS(desk), peer, sizeof peer, 10, 1000, 300, sizeof sig, out, sizeof both).number, 1);
+    STARTS(out, both);
+    ALL_FROM(out, sizeof both, 0x5A);
+    written = cuwelfra_encode_delta(body, sizeof body, desk.log + CUWELFRA_SLOT_BYTES, 2 * CUWELFRA_SLOT_BYTES, 2);
+    ACCEPTED(written.told);
+    written = cuwelfra_encode_envelope(frame, sizeof frame, 300, body, (size_t)written.next, sig, sizeof sig);
+    ACCEPTED(written.told);
+    IS(written.next, 0x0424);
+
+    /* One byte short; then too long a signature, which is told before all else. */
+    memset(out, 0x5A, sizeof out);
+    REFUSED(cuwelfra_delta_sizes(AREAS(desk), peer, sizeof peer, 1, 1000, 300, 64, out, sizeof one_each - 1).told,
+            SHORT_AREA, 0, 0);
+    REFUSED(cuwelfra_delta_sizes(AREAS(desk), peer, sizeof peer, 1, 1000, 300, sizeof sig + 1, out, sizeof out).told,
+            OVER_CAPACITY, 0, 0);
+    REFUSED(cuwelfra_delta_sizes(AREAS(desk), peer, sizeof peer - 1, 1, 1000, 300, sizeof sig + 1, out, 0).told,
+            OVER_CAPACITY, 0, 0);
+    ALL_FROM(out, 0, 0x5A);
+
+    /* A peer that lacks nothing is sent nothing, and no output is needed. */
+    ACCEPTED(cuwelfra_log_clock(AREAS(desk), peer, sizeof peer));
+    number = cuwelfra_delta_sizes(AREAS(desk), peer, sizeof peer, 1, 1000, 300, 64, out, 0);
+    ACCEPTED(number.told);
+    IS(number.number, 0);
 }
 
 static void peers(void)
@@ -1100,6 +1160,7 @@ int main(void)
     compacting();
     rows_of_its_own();
     deltas();
+    sizes();
     peers();
     handshakes();
     delta_messages();

@@ -459,6 +459,14 @@ cuwelfra_clock_number cuwelfra_calculate_delta(const uint8_t *log, size_t log_le
 cuwelfra_clock_number cuwelfra_chunk_ops(const uint8_t *log, size_t log_len, const uint8_t *held, size_t held_len,
                                          const uint8_t *head, size_t head_len, const uint8_t *peer, size_t peer_len,
                                          uint64_t max_per_chunk, uint64_t max_bytes, uint8_t *output, size_t output_len);
+/* What those chunks take as messages: of each its rows, then the bytes of the frame (see Messages) with its rows as a
+   Delta, from this sender and with a signature of sig_len bytes; eight big-endian bytes each. Gives how many chunks.
+   Later bytes stay. Of a chunk above 64 rows, which cuwelfra_encode_delta refuses, the bytes that the layout gives it.
+   4 for sig_len above 1,024, first of all; last 2 for an output below 16 bytes for each chunk. */
+cuwelfra_clock_number cuwelfra_delta_sizes(const uint8_t *log, size_t log_len, const uint8_t *held, size_t held_len,
+                                           const uint8_t *head, size_t head_len, const uint8_t *peer, size_t peer_len,
+                                           uint64_t max_per_chunk, uint64_t max_bytes, uint64_t sender,
+                                           uint64_t sig_len, uint8_t *output, size_t output_len);
 
 /* ---- Merging
    A batch is a varint count of at most 64, as many rows, and nothing behind. A row is written as cuwelfra_signed_op

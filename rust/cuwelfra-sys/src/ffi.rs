@@ -259,6 +259,22 @@ extern "C" {
         output: *mut u8,
         output_len: usize,
     ) -> ClockNumber;
+    pub fn cuwelfra_delta_sizes(
+        log: *const u8,
+        log_len: usize,
+        held: *const u8,
+        held_len: usize,
+        head: *const u8,
+        head_len: usize,
+        peer: *const u8,
+        peer_len: usize,
+        max_per_chunk: u64,
+        max_bytes: u64,
+        sender: u64,
+        sig_len: u64,
+        output: *mut u8,
+        output_len: usize,
+    ) -> ClockNumber;
     pub fn cuwelfra_insert(
         log: *mut u8,
         log_len: usize,

@@ -116,6 +116,22 @@ pub fn chunk_ops(
     lend!(cuwelfra_chunk_ops(store s, read peer, max_per_chunk, max_bytes, write output))
 }
 
+/// Writes the rows and the frame's bytes of each of those chunks, for a sender and so long a signature, and gives how many
+/// chunks there are.
+pub fn delta_sizes(
+    s: Areas,
+    peer: &[u8],
+    max_per_chunk: u64,
+    max_bytes: u64,
+    sender: u64,
+    sig_len: u64,
+    output: &mut [u8],
+) -> ClockNumber {
+    lend!(cuwelfra_delta_sizes(
+        store s, read peer, max_per_chunk, max_bytes, sender, sig_len, write output
+    ))
+}
+
 /// Inserts the row of a slot in stamp order.
 pub fn insert(log: &mut [u8], held: &[u8], head: &mut [u8], slot: &[u8]) -> Told {
     lend!(cuwelfra_insert(write log, read held, write head, read slot))

@@ -4,7 +4,7 @@ use cuwelfra_sys as sys;
 
 use crate::clock::number;
 use crate::words::{small, within, word};
-use crate::{Refusal, Row, Store, VectorClock};
+use crate::{ActorId, Refusal, Row, Store, VectorClock};
 
 /// The logged rows that a peer lacks, in log order, as [`Store::delta`] finds them.
 ///
@@ -35,11 +35,20 @@ pub struct Delta<'a> {
     positions: Vec<usize>,
 }
 
+/// What a chunk takes, as [`Delta::sizes`] tells it.
+#[derive(Clone, Copy, Debug, PartialEq, Eq, Hash)]
+pub struct ChunkSize {
+    /// How many rows it has.
+    pub rows: usize,
+    /// How many bytes its message has, with its envelope.
+    pub bytes: usize,
+}
+
 impl Store {
     /// What a peer with this clock lacks; 2, 1.
     pub fn delta(&self, peer: &VectorClock) -> Result<Delta<'_>, Refusal> {
-        let positions =
-            self.listed(|output| sys::calculate_delta(self.lent(), peer.area(), output))?;
+        let list = |output: &mut [u8]| sys::calculate_delta(self.lent(), peer.area(), output);
+        let positions = self.listed(1, list)?;
         Ok(Delta {
             store: self,
             peer: *peer,
@@ -47,15 +56,16 @@ impl Store {
         })
     }
 
-    /// The numbers that a call lists, at most one for each slot of the log.
+    /// The numbers that a call lists: so many of each entry, of which there is at most one for each slot of the log.
     fn listed(
         &self,
+        numbers: usize,
         call: impl FnOnce(&mut [u8]) -> sys::ClockNumber,
     ) -> Result<Vec<usize>, Refusal> {
-        let mut output = vec![0; 8 * self.capacity()];
+        let mut output = vec![0; 8 * numbers * self.capacity()];
         let count = within(number(call(&mut output))?, self.capacity())?;
         let (words, _) = output.as_chunks::<8>();
-        let words = words.iter().take(count);
+        let words = words.iter().take(numbers * count);
         words.map(|bytes| small(word(bytes, 0))).collect()
     }
 }
@@ -85,9 +95,60 @@ impl Delta<'_> {
     ///
     /// A row counts with its signed bytes, its signature and 16 more; 0 rows means 1.
     pub fn chunk_lens(&self, max_rows: u64, max_bytes: u64) -> Result<Vec<usize>, Refusal> {
-        let peer = self.peer.area();
-        let store = self.store;
-        store.listed(|output| sys::chunk_ops(store.lent(), peer, max_rows, max_bytes, output))
+        let (store, peer) = (self.store.lent(), self.peer.area());
+        self.store.listed(1, |output| {
+            sys::chunk_ops(store, peer, max_rows, max_bytes, output)
+        })
+    }
+
+    /// What each chunk of [`Delta::chunks`] takes as a message: its rows, and the bytes of the
+    /// [`Envelope`](crate::Envelope) with its [`Message::Delta`](crate::Message::Delta), from this sender and with a
+    /// signature of so many bytes; 4 where these are above [`MAX_BODY_SIGNATURE`](crate::MAX_BODY_SIGNATURE).
+    ///
+    /// A chunk above 64 rows, which [`Message::encode`](crate::Message::encode) refuses, has the bytes that the layout
+    /// gives it.
+    ///
+    /// ```
+    /// use cuwelfra::{ActorId, Envelope, Message, Refusal, Row, Slot, Store, Timestamp, VectorClock};
+    ///
+    /// let mut store = Store::with_capacity(16)?;
+    /// for seq in 1..=3 {
+    ///     let row = Row::new(Timestamp::new(10 * seq, 0, ActorId(1)), seq, "Kette = chain");
+    ///     store.insert(&Slot::logged(&row)?)?;
+    /// }
+    /// let delta = store.delta(&VectorClock::new())?;
+    ///
+    /// // In messages of at most two rows, from author 7 and with signatures of 64 bytes.
+    /// let sizes = delta.sizes(2, 65_536, ActorId(7), 64)?;
+    /// assert_eq!(sizes.iter().map(|chunk| chunk.rows).collect::<Vec<_>>(), [2, 1]);
+    /// assert_eq!(sizes.iter().map(|chunk| chunk.bytes).sum::<usize>(), 201);
+    ///
+    /// // These are the bytes that are sent.
+    /// for (size, rows) in sizes.iter().zip(delta.chunks(2, 65_536)?) {
+    ///     let body = Message::Delta(rows).encode()?;
+    ///     let envelope = Envelope { sender: ActorId(7), body: &body, sig: &[9; 64] };
+    ///     let mut frame = vec![0; size.bytes];
+    ///     assert_eq!(envelope.encode(&mut frame), Ok(size.bytes));
+    /// }
+    /// # Ok::<(), Refusal>(())
+    /// ```
+    pub fn sizes(
+        &self,
+        max_rows: u64,
+        max_bytes: u64,
+        sender: ActorId,
+        sig_len: usize,
+    ) -> Result<Vec<ChunkSize>, Refusal> {
+        let (store, peer, sig_len) = (self.store.lent(), self.peer.area(), sig_len as u64);
+        let numbers = self.store.listed(2, |output| {
+            sys::delta_sizes(store, peer, max_rows, max_bytes, sender.0, sig_len, output)
+        })?;
+        let (chunks, _) = numbers.as_chunks();
+        let sizes = chunks.iter().map(|[rows, bytes]| ChunkSize {
+            rows: *rows,
+            bytes: *bytes,
+        });
+        Ok(sizes.collect())
     }
 
     /// The rows chunk by chunk, with the counts of [`Delta::chunk_lens`].
@@ -113,7 +174,7 @@ impl Delta<'_> {
 #[cfg(test)]
 mod tests {
     use super::*;
-    use crate::{ActorId, Slot, Timestamp};
+    use crate::{varint_len, Envelope, Message, Slot, Timestamp, MAX_BODY_SIGNATURE};
 
     /// Two rows of author 1 and two of author 2, in turns, the last of them large.
     fn store() -> Result<Store, Refusal> {
@@ -163,15 +224,119 @@ mod tests {
     #[test]
     fn more_than_the_log_has_slots_is_no_answer() -> Result<(), Refusal> {
         let store = store()?;
-        let listed = |number| {
-            store.listed(|output| {
+        let listed = |numbers, number| {
+            store.listed(numbers, |output| {
+                assert_eq!(output.len(), 5 * numbers * 8);
                 output.fill(0);
                 let told = sys::Told::default();
                 sys::ClockNumber { told, number }
             })
         };
-        assert_eq!(listed(5), Ok(vec![0; 5]));
-        assert_eq!(listed(6), Err(Refusal::MisfitAnswer));
+        for numbers in [1, 2] {
+            assert_eq!(listed(numbers, 5), Ok(vec![0; 5 * numbers]));
+            assert_eq!(listed(numbers, 6), Err(Refusal::MisfitAnswer));
+        }
+        Ok(())
+    }
+
+    /// What is sent: the envelopes around the messages of the chunks.
+    fn sent(delta: &Delta, limits: (u64, u64), sender: u64, sig_len: usize) -> Vec<ChunkSize> {
+        let chunks = delta.chunks(limits.0, limits.1).expect("chunks");
+        let sizes = chunks.into_iter().map(|chunk| {
+            let rows = chunk.len();
+            let body = Message::Delta(chunk).encode().expect("a message");
+            let envelope = Envelope {
+                sender: ActorId(sender),
+                body: &body,
+                sig: &vec![9; sig_len],
+            };
+            let mut frame = vec![0; 2_048];
+            let bytes = envelope.encode(&mut frame).expect("an envelope");
+            ChunkSize { rows, bytes }
+        });
+        sizes.collect()
+    }
+
+    #[test]
+    fn sizes_are_those_of_what_is_sent() -> Result<(), Refusal> {
+        let store = store()?;
+        let delta = store.delta(&VectorClock::new())?;
+        for limits in [
+            (0, 1_000),
+            (2, 1_000),
+            (9, 0),
+            (9, 48),
+            (9, 1_000),
+            (u64::MAX, u64::MAX),
+        ] {
+            for sender in [0, 127, 128, u64::MAX] {
+                for sig_len in [0, 1, 127, 128, 1_023, 1_024] {
+                    let sizes = delta.sizes(limits.0, limits.1, ActorId(sender), sig_len)?;
+                    let sent = sent(&delta, limits, sender, sig_len);
+                    assert_eq!(sizes, sent, "{limits:?}, {sender}, {sig_len}");
+                }
+            }
+        }
+        // The last row: stamp 3/0/2, author 2, sequence 2, 200 bytes of payload.
+        let row = 3 + 2 + 1 + (2 + 200) + 1;
+        let last = ChunkSize {
+            rows: 1,
+            bytes: 1 + (2 + 1 + 1 + row) + (1 + 64),
+        };
+        assert_eq!(delta.sizes(1, 0, ActorId(7), 64)?.last(), Some(&last));
+        Ok(())
+    }
+
+    /// Above 64 rows no message is written, and from 128 on the count has two bytes.
+    #[test]
+    fn a_chunk_above_64_rows_has_the_bytes_of_the_layout() -> Result<(), Refusal> {
+        let mut store = Store::with_capacity(200)?;
+        let mut rows_bytes = 0;
+        for seq in 1..=128 {
+            let row = Row::new(Timestamp::new(seq, 0, ActorId(1)), seq, "Kette = chain");
+            store.insert(&Slot::logged(&row)?)?;
+            rows_bytes += Message::Delta(vec![row]).encode()?.len() - 2;
+            if seq >= 64 {
+                let delta = store.delta(&VectorClock::new())?;
+                let body = 1 + varint_len(seq) + rows_bytes;
+                let bytes = 1 + varint_len(body as u64) + body + (1 + 64);
+                let whole = ChunkSize {
+                    rows: seq as usize,
+                    bytes,
+                };
+                assert_eq!(
+                    delta.sizes(1_024, u64::MAX, ActorId(7), 64),
+                    Ok(vec![whole])
+                );
+                let written = Message::Delta(delta.rows()?).encode();
+                let refused = (seq > 64).then_some(Refusal::OverCapacity);
+                assert_eq!(written.err(), refused);
+            }
+        }
+        Ok(())
+    }
+
+    #[test]
+    fn longer_signatures_are_refused() -> Result<(), Refusal> {
+        let store = store()?;
+        let delta = store.delta(&VectorClock::new())?;
+        let sizes = |sig_len| {
+            delta
+                .sizes(9, 1_000, ActorId(7), sig_len)
+                .map(|sizes| sizes.len())
+        };
+        assert_eq!(sizes(MAX_BODY_SIGNATURE), Ok(1));
+        for sig_len in [MAX_BODY_SIGNATURE + 1, usize::MAX] {
+            assert_eq!(sizes(sig_len), Err(Refusal::OverCapacity));
+        }
+        Ok(())
+    }
+
+    #[test]
+    fn nothing_is_sent_of_an_empty_delta() -> Result<(), Refusal> {
+        let store = store()?;
+        let delta = store.delta(&store.clock()?)?;
+        assert_eq!(delta.sizes(1, 0, ActorId(7), 64), Ok(vec![]));
         Ok(())
     }
 

@@ -6,7 +6,8 @@
 //!   [`Limits`]; [`Report`] tells what became of them.
 //! - [`Store::prepare`] and [`Store::seal`] add rows of the desk's own, with the server's signature between them.
 //! - [`Store::save`], [`Store::load`] and [`Update`] keep a store in a file.
-//! - [`Delta`] is what a peer lacks, [`Peer`] what is known about one.
+//! - [`Delta`] is what a peer lacks, and knows before it is sent how many bytes that takes; [`Peer`] is what is known about
+//!   one.
 //! - [`HybridClock`] stamps an author's rows, and takes in the stamps of each batch; [`VectorClock`] says how far each
 //!   author's rows are known.
 //! - [`Message`] is what peers say to each other, [`Frame`] a message with its sender and signature; [`Reader`],
@@ -137,7 +138,7 @@ pub use clock::{CausalOrder, HybridClock, HybridParts, ParseTimestampError};
 pub use clock::{Timestamp, VectorClock, CLOCK_BYTES, MAX_AUTHORS};
 pub use codec::{varint_len, Envelope, Reader, Writer, MAX_BODY, MAX_BODY_SIGNATURE};
 pub use cuwelfra_sys::Told;
-pub use delta::Delta;
+pub use delta::{ChunkSize, Delta};
 pub use desk::Prepared;
 pub use file::{write_new, FileError, Update};
 pub use merge::{Fate, Logged, Report, LINE_BYTES};
@@ -251,5 +252,6 @@ mod tests {
         key::<(ActorId, Timestamp, VectorClock, HybridClock)>();
         key::<(Row, Limits, Request)>();
         key::<(Message, Frame)>();
+        key::<ChunkSize>();
     }
 }
