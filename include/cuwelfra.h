@@ -45,7 +45,8 @@ uint64_t cuwelfra_abi_4(void);
     /* a batch, or bytes to seal, cut short or with bytes left over, a number above its bits or in more bytes than    \
        it needs, authors that do not strictly rise, closing bytes that are none */                                    \
     X(3, UNREADABLE, "unreadable")                                                                                    \
-    /* a size in a batch, in a message or in what is sealed, or a setting, above its greatest */                      \
+    /* a size in a batch, in a message or in what is sealed, a setting, or the length of a signature in               \
+       cuwelfra_delta_sizes, above its greatest */                                                                    \
     X(4, OVER_CAPACITY, "over capacity")                                                                              \
     /* 5 to 13 are told of a row of a batch, 5 and 6 of one that is sealed too */                                     \
     X(5, ZERO_SEQUENCE, "zero sequence")                                                                              \

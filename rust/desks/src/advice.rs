@@ -27,9 +27,10 @@ const ADVICE: [Advice; 20] = [
     },
     Advice {
         meaning: "Something is larger than a batch can take: 64 rows, and in a row 16 dependencies, 256 bytes of payload \
-                 and 64 of signature.",
+                 and 64 of signature; or the signature of a message has more than 1,024 bytes.",
         advice: "In a text file, shorten what is named, or take the row out and join the file again. With `./run add`, \
-                 shorten what is named. A .batch file is no batch, or comes from another program: have it sent again.",
+                 shorten what is named. With `./run delta --sizes`, name a --signature of at most 1,024 bytes. A .batch \
+                 file is no batch, or comes from another program: have it sent again.",
     },
     Advice {
         meaning: "A row has sequence 0. An author's rows are numbered from 1.",

@@ -22,7 +22,7 @@ pub enum Error {
     Usage {
         name: &'static str,
         words: &'static str,
-        /// What is not among them, where that can be said.
+        /// What is not among them, or should not be, where that can be said.
         lacking: &'static str,
     },
     /// An option with its word behind `=`.

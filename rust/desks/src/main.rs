@@ -27,6 +27,7 @@ mod plain;
 mod refused;
 mod screen;
 mod show;
+mod sizes;
 mod store;
 mod table;
 #[cfg(test)]

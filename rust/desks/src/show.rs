@@ -1,6 +1,8 @@
 //! Calls, rows, stamps and stores as plain text.
 
-use cuwelfra::{ActorId, Fate, Limits, Refusal, Row, Timestamp};
+use std::fmt::Display;
+
+use cuwelfra::{ActorId, ChunkSize, Fate, Limits, Refusal, Row, Timestamp};
 
 use crate::advice::{advice, Advice};
 use crate::calls::{Accepted, Told};
@@ -416,6 +418,23 @@ pub fn delta(chunks: &[Vec<Logged>]) -> Table {
         rows.map(move |logged| (vec![i.to_string(), fate(logged.fate)], &logged.row))
     });
     rows_with(&["chunk", "fate"], rows)
+}
+
+/// Rows and bytes of a delta's chunks, and their sums. Numbers of chunks stand to the right, although one line has none.
+pub fn sizes(sizes: &[ChunkSize]) -> Table {
+    let line = |chunk: &dyn Display, rows: usize, bytes: usize| {
+        vec![format!("{chunk:>5}"), rows.to_string(), bytes.to_string()]
+    };
+    let chunks = (1..).zip(sizes);
+    let mut rows: Vec<Vec<String>> = chunks
+        .map(|(i, size): (u64, _)| line(&i, size.rows, size.bytes))
+        .collect();
+    let sum = |part: fn(&ChunkSize) -> usize| sizes.iter().map(part).sum();
+    rows.push(line(&"sum", sum(|size| size.rows), sum(|size| size.bytes)));
+    Table {
+        titles: vec!["chunk", "rows", "bytes"],
+        rows,
+    }
 }
 
 /// Logged rows with their fates.

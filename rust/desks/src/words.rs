@@ -78,10 +78,9 @@ impl Words {
         self.given.iter().position(|word| word == option)
     }
 
-    /// Takes an option's number out; the default where it is not given.
-    pub fn number(&mut self, option: &str, default: u64) -> Result<u64, Error> {
-        let number = self.read(option, "whole number below 2^64", whole)?;
-        Ok(number.unwrap_or(default))
+    /// Takes an option's number out, where it is given.
+    pub fn number(&mut self, option: &str) -> Result<Option<u64>, Error> {
+        self.read(option, "whole number below 2^64", whole)
     }
 
     /// Takes an option's word out and reads it.
@@ -224,8 +223,8 @@ impl Words {
         self.lacking("")
     }
 
-    /// What the words should be, and what is not among them.
-    fn lacking(&self, lacking: &'static str) -> Error {
+    /// What the words should be, and what is wrong with those that were given.
+    pub fn lacking(&self, lacking: &'static str) -> Error {
         Error::Usage {
             name: self.name,
             words: self.wanted,

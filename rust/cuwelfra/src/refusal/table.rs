@@ -177,9 +177,11 @@ refusals! {
     }
     4 => OverCapacity, "over capacity" {
         meaning: "A size or a setting is above its capacity. Sizes: 64 rows in a batch or a message, 32 entries in a \
-                  message's clock, 16 dependencies, 256 bytes of payload, 64 of signature, 1,024 rows in a log. \
-                  Settings: `max_pending` 64, `max_deps` 16, `max_payload` 256.",
-        advice: "Split the batch or the message, leave the row out, lower the setting, or sign with at most 64 bytes.",
+                  message's clock, 16 dependencies, 256 bytes of payload, 64 of signature, 1,024 rows in a log, 1,024 \
+                  bytes of signature in the envelopes of `sizes`. Settings: `max_pending` 64, `max_deps` 16, \
+                  `max_payload` 256.",
+        advice: "Split the batch or the message, leave the row out, lower the setting, or sign with at most 64 bytes, an \
+                 envelope with at most 1,024.",
     }
     5 => ZeroSequence { actor: ActorId = "author", seq: u64 = "sequence" }, "zero sequence" {
         meaning: "A row of the batch, or the row to seal, has sequence 0. An author's rows are numbered from 1.",

@@ -1,4 +1,4 @@
-//! `delta FROM TO`: the rows that one store has logged and another has not.
+//! `delta FROM TO`: the rows that one store has logged and another has not, or what sending them takes.
 
 use std::collections::BTreeMap;
 use std::ffi::OsStr;
@@ -12,15 +12,17 @@ use crate::error::Error;
 use crate::notice::outcome;
 use crate::plain::name;
 use crate::show;
+use crate::sizes::Frames;
 use crate::store::{load, logged, needs, Logged};
 use crate::table::counted;
 use crate::text::{self, id, Offer};
 use crate::words::Words;
 
 pub fn run(mut words: Words) -> Result<Answer, Error> {
-    let max_rows = words.number("--rows", MAX_BATCH as u64)?;
-    let max_bytes = words.number("--bytes", u64::MAX)?;
+    let max_rows = words.number("--rows")?.unwrap_or(MAX_BATCH as u64);
+    let max_bytes = words.number("--bytes")?.unwrap_or(u64::MAX);
     let out = words.option("--out")?.map(PathBuf::from);
+    let frames = frames(&mut words, out.is_some())?;
     let [from, to] = words.exactly()?;
     let (store, other) = (load(Path::new(&from))?, peer(&to)?);
     let clock = other.clock()?;
@@ -29,10 +31,11 @@ pub fn run(mut words: Words) -> Result<Answer, Error> {
 
     let rows: usize = chunks.iter().map(Vec::len).sum();
     let mut text = format!("{start} lacks {} of {from}.\n", counted(rows, "row"));
-    if rows > 0 {
-        text += &format!("Rows of each chunk: {}\n\n", lengths(&chunks));
-        text += &show::delta(&chunks).to_string();
-    }
+    let told = match &frames {
+        Some(frames) => frames.told(&store.delta(&clock)?, max_rows, max_bytes)?,
+        None => Answer::well(listed(&chunks)),
+    };
+    text += &told.text;
     let held = store.held_len()?;
     if held > 0 {
         let held = counted(held, "held row");
@@ -55,10 +58,28 @@ pub fn run(mut words: Words) -> Result<Answer, Error> {
         text += &format!("\n{}", write_out(out, &unanswered, &offers)?);
         text.extend(unanswered.iter().map(|line| format!("{line}\n")));
     }
+    let unknown = out.is_some() && !unanswered.is_empty();
     Ok(Answer {
         text,
-        well: whole && differing.is_empty() && (out.is_none() || unanswered.is_empty()),
+        well: told.well && whole && differing.is_empty() && !unknown,
     })
+}
+
+/// The messages that `--sizes` counts; `None` without it.
+fn frames(words: &mut Words, out: bool) -> Result<Option<Frames>, Error> {
+    let sizes = words.flag("--sizes");
+    let sender = words.number("--sender")?;
+    let signature = words.number("--signature")?;
+    match sizes {
+        true if out => {
+            Err(words.lacking("--sizes counts and writes nothing, so --out cannot stand beside it"))
+        }
+        true => Ok(Some(Frames::new(sender, signature))),
+        false if sender.or(signature).is_some() => {
+            Err(words.lacking("--sizes is missing, for which alone --sender and --signature are"))
+        }
+        false => Ok(None),
+    }
 }
 
 /// The word for a store that has nothing.
@@ -96,6 +117,18 @@ fn differing(from: &[Logged], to: &[Logged]) -> String {
         format!("{one}\n{other}\n\n")
     });
     lines.collect()
+}
+
+/// The rows chunk by chunk; nothing where there is none.
+fn listed(chunks: &[Vec<Logged>]) -> String {
+    match chunks.is_empty() {
+        true => String::new(),
+        false => format!(
+            "Rows of each chunk: {}\n\n{}",
+            lengths(chunks),
+            show::delta(chunks)
+        ),
+    }
 }
 
 /// How many rows each chunk has; equal numbers that follow each other once.

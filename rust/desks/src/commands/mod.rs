@@ -43,7 +43,7 @@ const COMMANDS: [Command; 15] = [
     Command("check", "STORE", check::run),
     Command(
         "delta",
-        "FROM TO [--rows N] [--bytes N] [--out FILE]",
+        "FROM TO [--rows N] [--bytes N] [--out FILE | --sizes [--sender N] [--signature N]]",
         delta::run,
     ),
     Command("cutoff", "STORE FRONTIER...", cutoff::run),

@@ -131,5 +131,6 @@ mod adding;
 mod changing;
 mod doubting;
 mod joining;
+mod sizing;
 mod telling;
 mod wording;

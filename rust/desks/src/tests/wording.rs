@@ -50,6 +50,8 @@ fn wrong_words() {
     folder.write("good.txt", "1 0 1 1 - x");
     let span = "span of time: a whole number of ms, or of s, m, h or d with that letter behind it";
     let compact = "write ./run compact STORE [STAMP] [--dry-run] [--force] [--cutoff FRONTIER...]";
+    let delta =
+        "write ./run delta FROM TO [--rows N] [--bytes N] [--out FILE | --sizes [--sender N] [--signature N]]";
     let add = "write ./run add STORE --author N PAYLOAD... [--time MS] [--drift SPAN] [--force]";
     let faults = [
         ("merge", "no command merge; --help lists them"),
@@ -126,7 +128,28 @@ fn wrong_words() {
         ),
         (
             "delta a.store ab.store --rows",
-            "write ./run delta FROM TO [--rows N] [--bytes N] [--out FILE]",
+            delta,
+        ),
+        (
+            "delta a.store ab.store --sizes --out out.txt",
+            &format!("--sizes counts and writes nothing, so --out cannot stand beside it; {delta}"),
+        ),
+        (
+            "delta a.store ab.store --sender 7",
+            &format!("--sizes is missing, for which alone --sender and --signature are; {delta}"),
+        ),
+        (
+            "delta a.store ab.store --signature 0 --out out.txt",
+            &format!("--sizes is missing, for which alone --sender and --signature are; {delta}"),
+        ),
+        ("delta a.store ab.store --sizes --sender", delta),
+        (
+            "delta a.store ab.store --sizes --sender me",
+            "`me` is no whole number below 2^64",
+        ),
+        (
+            "delta a.store ab.store --sizes --signature=64",
+            "write --signature 64, not --signature=64",
         ),
         (
             "delta a.store ab.store --rows many",
