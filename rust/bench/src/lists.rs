@@ -1,10 +1,14 @@
-//! Calls beside the batch call: from_parts, delta and chunks of a full log, rows of the desk's own, messages, and varints.
+//! Calls beside the batch call: from_parts, delta, chunks and sizes of a full log, rows of the desk's own, messages, and
+//! varints.
 
-use cuwelfra::{Row, VectorClock, CLOCK_BYTES, HEAD_BYTES, HELD_BYTES, MAX_LOGGED, SLOT_BYTES};
+use cuwelfra::{ActorId, ChunkSize, Row, VectorClock};
+use cuwelfra::{CLOCK_BYTES, HEAD_BYTES, HELD_BYTES, MAX_LOGGED, SLOT_BYTES};
 use cuwelfra_sys as sys;
-use oracle::log::ReplicatedLog;
+use oracle::codec::{BinaryCodec, Codec};
+use oracle::log::{ReplicatedLog, StampedOperation};
 use oracle::open::{Reader, Writer};
-use oracle::sync::{calculate_delta, chunk_ops};
+use oracle::stubs;
+use oracle::sync::{calculate_delta, chunk_ops, Envelope, Message};
 
 use crate::case::{same_log, slots, store_of};
 use crate::messages;
@@ -19,6 +23,9 @@ const PART: usize = 10_000;
 /// The original's own default for a chunk.
 const CHUNK_ROWS: usize = 64;
 const CHUNK_BYTES: usize = 65_536;
+/// Who sends messages that are sized, and how many bytes their signatures have.
+const SENDER: u64 = 7;
+const SIGNATURE: usize = 64;
 
 type Done = Result<(), String>;
 
@@ -31,6 +38,7 @@ pub fn lists() -> Done {
     from_parts("from_parts of 1,024 rows in reverse order", &reversed)?;
     delta(&rows)?;
     chunks(&rows)?;
+    sizes(&rows)?;
     own::own()?;
     messages::messages()?;
     varints()
@@ -118,6 +126,69 @@ fn chunks(rows: &[Row]) -> Done {
         Box::new(|| time(both)),
     );
     Ok(())
+}
+
+/// The sizes of those chunks as messages, which the original knows once it has written them.
+fn sizes(rows: &[Row]) -> Done {
+    let store = store_of(rows, MAX_LOGGED).map_err(refused)?;
+    let log = log_of(rows);
+    let peer = Default::default();
+    let all = || {
+        let chunks = chunk_ops(&calculate_delta(&log, &peer), CHUNK_ROWS, CHUNK_BYTES);
+        chunks.into_iter().map(sent).collect::<Vec<_>>()
+    };
+    let (most, bytes) = (CHUNK_ROWS as u64, CHUNK_BYTES as u64);
+    let delta = store.delta(&VectorClock::new()).map_err(refused)?;
+    let sizes = delta.sizes(most, bytes, ActorId(SENDER), SIGNATURE);
+    let sizes = sizes.map_err(refused)?;
+    if sizes != all() {
+        return Err("the sizes differ".into());
+    }
+    let (areas, clock) = (store.areas(), [0; CLOCK_BYTES]);
+    let outputs = [
+        (
+            "delta and sizes of 1,024 rows, output for each row",
+            rows.len(),
+        ),
+        (
+            "delta and sizes of 1,024 rows, output for each chunk",
+            sizes.len(),
+        ),
+    ];
+    for (name, entries) in outputs {
+        let mut output = vec![0; 16 * entries];
+        let mut port = || {
+            let sig_len = SIGNATURE as u64;
+            sys::delta_sizes(
+                lent(areas),
+                &clock,
+                most,
+                bytes,
+                SENDER,
+                sig_len,
+                &mut output,
+            )
+        };
+        line(
+            name,
+            ROUNDS,
+            Box::new(|| time(&mut port)),
+            Box::new(|| time(all)),
+        );
+    }
+    Ok(())
+}
+
+/// What the original sends of a chunk.
+fn sent(chunk: Vec<StampedOperation>) -> ChunkSize {
+    let rows = chunk.len();
+    let envelope = Envelope {
+        sender: stubs::ActorId(SENDER),
+        body: BinaryCodec.encode(&Message::Delta(chunk)),
+        sig: vec![0; SIGNATURE],
+    };
+    let bytes = envelope.encode().len();
+    ChunkSize { rows, bytes }
 }
 
 fn lent<'a>((log, held, head): (&'a [u8], &'a [u8], &'a [u8])) -> sys::Areas<'a> {

@@ -7,6 +7,15 @@ use crate::port::area::set_word;
 use crate::rng::Rng;
 use crate::support::{agree, pattern, refused, Reach};
 
+/// What a call lists.
+pub struct List<'a> {
+    /// The number that it gives.
+    pub entries: usize,
+    pub numbers: &'a [u64],
+    /// The bytes of output that it asks for.
+    pub size: usize,
+}
+
 /// Requires that a call lists these numbers in an output of at least 8 bytes for each logged row, and refuses a shorter
 /// one, with 2. All other bytes stay. Gives how many there are.
 pub fn listed(
@@ -23,20 +32,37 @@ pub fn listed(
         2 => rng.below(size + 1),
         _ => size,
     };
+    let list = List {
+        entries: numbers.len(),
+        numbers,
+        size,
+    };
+    listed_in(pair, room, &list, inputs, call)
+}
+
+/// The same for an output of so many bytes, and for what the call asks for.
+pub fn listed_in(
+    pair: &Pair,
+    room: usize,
+    list: &List,
+    inputs: impl Fn(&Pair) -> String,
+    call: impl Fn(Areas, &mut [u8]) -> ClockNumber,
+) -> Reach {
     let mut output = pattern(room);
     let mut after = output.clone();
     let mut answer = ClockNumber {
         told: refused(2),
         number: 0,
     };
-    if room >= size {
-        for (i, number) in numbers.iter().enumerate() {
+    let enough = room >= list.size;
+    if enough {
+        for (i, number) in list.numbers.iter().enumerate() {
             set_word(&mut after, i, *number);
         }
-        answer = told_number(numbers.len() as u64);
+        answer = told_number(list.entries as u64);
     }
     let inputs = || format!("{}, output of {room} bytes", inputs(pair));
     agree(&call(pair.areas.lent(), &mut output), &answer, inputs)?;
     agree(&output, &after, inputs)?;
-    Ok((room >= size).then_some(numbers.len()))
+    Ok(enough.then_some(list.entries))
 }

@@ -80,6 +80,7 @@ cfg_if! {
             pub mod cutoff;
             pub mod delta;
             pub mod chunks;
+            pub mod delta_sizes;
             pub mod lookup;
             pub mod peers;
             pub mod peer_pending;

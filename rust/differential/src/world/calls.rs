@@ -57,7 +57,7 @@ pub enum Takes {
 }
 
 /// Name, other area, call.
-pub const CALLS: [(&str, Takes, Call); 19] = [
+pub const CALLS: [(&str, Takes, Call); 20] = [
     ("store_check", Takes::Nothing, |s, _| {
         sys::store_check(s.lent())
     }),
@@ -105,6 +105,17 @@ pub const CALLS: [(&str, Takes, Call); 19] = [
             &o.clock,
             o.seq,
             o.author,
+            &mut o.output,
+        ))
+    }),
+    ("delta_sizes", Takes::Clock, |s, o| {
+        number(sys::delta_sizes(
+            s.lent(),
+            &o.clock,
+            o.seq,
+            o.author,
+            o.author,
+            o.seq % 1_025,
             &mut o.output,
         ))
     }),

@@ -29,19 +29,25 @@ pub fn delta(rng: &mut Rng, rows: usize) -> Message {
 
 /// A Hello of 32 authors and a Delta of 64 rows, of the largest numbers and parts.
 pub fn largest() -> [Message; 2] {
-    let pairs = |count: u64| -> Pairs {
-        let authors = (0..count).map(|i| u64::MAX - count + 1 + i);
-        authors.map(|author| (author, u64::MAX)).collect()
-    };
-    let row = Row {
+    let rows = vec![largest_row(); ROWS];
+    [Message::Hello(largest_pairs(32)), Message::Delta(rows)]
+}
+
+/// A row of the largest numbers and parts.
+pub fn largest_row() -> Row {
+    Row {
         stamp: (u64::MAX, u32::MAX, u64::MAX),
         author: u64::MAX,
         seq: u64::MAX,
-        deps: pairs(DEPS as u64),
+        deps: largest_pairs(DEPS as u64),
         payload: vec![0xff; PAYLOAD],
         signature: vec![0xff; SIGNATURE],
-    };
-    [Message::Hello(pairs(32)), Message::Delta(vec![row; ROWS])]
+    }
+}
+
+fn largest_pairs(count: u64) -> Pairs {
+    let authors = (0..count).map(|i| u64::MAX - count + 1 + i);
+    authors.map(|author| (author, u64::MAX)).collect()
 }
 
 /// A row of any sizes, most of them small.

@@ -241,7 +241,7 @@ pub fn large_row(rng: &mut Rng) -> Row {
 }
 
 /// A number around a power of 2^7, or another edge.
-fn boundary(rng: &mut Rng) -> u64 {
+pub fn boundary(rng: &mut Rng) -> u64 {
     if rng.once_in(2) {
         let power = 1 << (7 * rng.below(10));
         return rng.near(power);

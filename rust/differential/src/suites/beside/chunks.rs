@@ -39,7 +39,7 @@ pub fn run(rng: &mut Rng) -> Outcome {
 }
 
 /// A byte limit around the size of some rows in a row, or an end.
-fn byte_limit(rng: &mut Rng, ops: &[StampedOperation]) -> u64 {
+pub fn byte_limit(rng: &mut Rng, ops: &[StampedOperation]) -> u64 {
     if ops.is_empty() || rng.once_in(4) {
         return rng.pick(&[0, 1, 40, u64::MAX - 1, u64::MAX]);
     }
@@ -50,7 +50,8 @@ fn byte_limit(rng: &mut Rng, ops: &[StampedOperation]) -> u64 {
     rng.pick(&[sum - 1, sum, sum, sum + 1])
 }
 
-fn size(op: &StampedOperation) -> usize {
+/// What a row counts in a chunk.
+pub fn size(op: &StampedOperation) -> usize {
     op.signing_bytes().len() + op.signature.len() + 16
 }
 

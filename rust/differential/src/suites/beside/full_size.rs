@@ -11,6 +11,7 @@ use crate::original::joined::Joined;
 use crate::port::area::AUTHORS;
 use crate::port::store::LOGGED;
 use crate::rng::Rng;
+use crate::suites::beside::delta_sizes::{self, Kinds};
 use crate::suites::beside::{chunks, compact, cutoff, delta, lookup, peer_pending};
 use crate::support::{note, Check, Outcome};
 use crate::world::lists::gated;
@@ -25,11 +26,12 @@ const SHARED: usize = 100;
 
 /// Each call, and the answers that it must reach: a number of rows, but `can_serve` answers 1 or 0, and `derive_clock`
 /// counts authors.
-const CALLS: [(&str, usize, usize); 9] = [
+const CALLS: [(&str, usize, usize); 10] = [
     ("cutoff", 0, LOGGED),
     ("can_serve", 0, 1),
     ("delta", 0, LOGGED),
     ("chunks", 0, LOGGED),
+    ("sizes", 0, LOGGED),
     ("pending_ops", 0, LOGGED),
     ("lookup", 0, LOGGED + HELD_ROWS),
     ("derive_clock", 1, AUTHORS),
@@ -106,6 +108,8 @@ fn ask(rng: &mut Rng, full: &Full, pair: &mut Pair, tallies: &mut Tallies) -> Ch
         let peer = near_clock(rng, &clock);
         tallies.note("delta", &kind, delta::delta(rng, pair, &peer)?);
         tallies.note("chunks", &kind, chunks::chunks(rng, pair, &peer)?);
+        let sizes = delta_sizes::sizes(rng, pair, &peer, &mut Kinds::default())?;
+        tallies.note("sizes", &kind, sizes);
         let rows = peer_pending::pending_ops(rng, pair, &peer)?;
         tallies.note("pending_ops", &kind, rows);
     }

@@ -1,4 +1,5 @@
-//! 1 and 2: areas that break a rule or are too short. 17 and 18 by calls that take a row or a list of rows.
+//! 1 and 2: areas that break a rule or are too short; 4 before 2 by a signature's length. 17 and 18 by calls that take a row
+//! or a list of rows.
 
 use cuwelfra_sys::{self as sys, Told};
 
@@ -80,6 +81,18 @@ pub const PROVOCATIONS: &[Provocation] = &[
         desk.offer([row(1, 1)]);
         sys::calculate_delta(desk.areas.lent(), &[0; BYTES], &mut [0; 7]).told
     }),
+    ("the sizes of one chunk into 15 bytes", [2, 0, 0], || {
+        sizes(BYTES, 1_024, 15)
+    }),
+    ("those for a clock of 519 bytes", [2, 0, 0], || {
+        sizes(BYTES - 1, 1_024, 16)
+    }),
+    ("those for a signature of 1,025 bytes", [4, 0, 0], || {
+        sizes(BYTES, 1_025, 16)
+    }),
+    ("all three at once", [4, 0, 0], || {
+        sizes(BYTES - 1, 1_025, 15)
+    }),
     ("an output of 17 bytes for one row", [2, 0, 0], || {
         let mut desk = Desk::new(1);
         let mut lent = desk.lent(&[row(1, 1)]);
@@ -112,6 +125,18 @@ pub const PROVOCATIONS: &[Provocation] = &[
         insert(&mut areas, &row(33, 1).row.slot())
     }),
 ];
+
+/// The sizes of a delta of one row, for a clock area and an output of so many bytes.
+fn sizes(clock: usize, sig_len: u64, output: usize) -> Told {
+    let mut desk = Desk::new(1);
+    desk.offer([row(1, 1)]);
+    let (clock, mut output) = (vec![0; clock], pattern(output));
+    let before = output.clone();
+    let answer = sys::delta_sizes(desk.areas.lent(), &clock, 1, 0, 7, sig_len, &mut output);
+    assert_eq!(answer.number, 0, "a refused call gives no number");
+    assert_eq!(output, before, "a refusal changed the output");
+    answer.told
+}
 
 fn spoiled_slot() -> Vec<u8> {
     let mut slot = row(1, 1).row.slot();
