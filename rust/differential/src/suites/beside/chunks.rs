@@ -17,13 +17,7 @@ pub fn run(rng: &mut Rng) -> Outcome {
     let mut chunkings = 0;
     while chunkings < CHUNKINGS {
         let world = World::new(rng);
-        let mut pair = if rng.once_in(3) {
-            let rows: Vec<_> = (0..rng.below(8)).map(|_| large_row(rng)).collect();
-            Pair::of(rng, &world, log_of(&rows, &Entries::new()))
-        } else {
-            let logged = rng.below(14);
-            Pair::new(rng, &world, logged)
-        };
+        let mut pair = small(rng, &world);
         for _ in 0..4 {
             let clock = entries(pair.original.clock());
             let peer = if rng.once_in(2) {
@@ -36,6 +30,16 @@ pub fn run(rng: &mut Rng) -> Outcome {
         }
     }
     Ok(chunkings)
+}
+
+/// A log of few rows, or of some that are large.
+pub fn small(rng: &mut Rng, world: &World) -> Pair {
+    if rng.once_in(3) {
+        let rows: Vec<_> = (0..rng.below(8)).map(|_| large_row(rng)).collect();
+        return Pair::of(rng, world, log_of(&rows, &Entries::new()));
+    }
+    let logged = rng.below(14);
+    Pair::new(rng, world, logged)
 }
 
 /// A byte limit around the size of some rows in a row, or an end.

@@ -1,19 +1,23 @@
-//! What is asked beside a store and a peer's clock, and the frames that the original and the port make by it.
+//! What is asked beside a store, and the frames that the original and the port make by it.
 
-use cuwelfra::{ActorId, ChunkSize, Delta, Refusal, VectorClock};
+use cuwelfra::{ActorId, ChunkSize, Refusal, Store, VectorClock};
 use cuwelfra_sys::{self as sys, ClockNumber};
 use oracle::codec::{BinaryCodec, Codec, MAX_SIGNATURE};
 use oracle::log::StampedOperation;
 use oracle::stubs;
-use oracle::sync::{Envelope, Message};
+use oracle::sync::{calculate_delta, Envelope, Message};
 
+use crate::original::beside::{clock_area, vector, Pair};
 use crate::port::area::Area;
+use crate::port::store::Entries;
 use crate::rng::Rng;
 use crate::suites::beside::chunks::byte_limit;
 use crate::world::boundary;
 
 #[derive(Debug)]
 pub struct Asked {
+    /// The clock of the peer.
+    peer: Entries,
     /// Rows and bytes of a chunk at most.
     pub most: u64,
     pub bytes: u64,
@@ -30,13 +34,15 @@ pub struct Frame {
 }
 
 impl Asked {
-    pub fn any(rng: &mut Rng, delta: &[StampedOperation]) -> Self {
+    pub fn any(rng: &mut Rng, pair: &Pair, peer: &Entries) -> Self {
+        let delta = calculate_delta(&pair.original, &vector(peer));
         let any = rng.next() % (MAX_SIGNATURE as u64 + 2);
         let longer = rng.edge().max(MAX_SIGNATURE as u64 + 1);
         let longer = rng.pick(&[MAX_SIGNATURE as u64 + 1, longer, u64::MAX]);
         Self {
+            peer: peer.clone(),
             most: rng.pick(&[0, 1, 2, 3, 5, 63, 64, 65, 100, 1_024, u64::MAX, u64::MAX]),
-            bytes: byte_limit(rng, delta),
+            bytes: byte_limit(rng, &delta),
             sender: boundary(rng),
             sig_len: rng.pick(&[
                 0, 1, 64, 126, 127, 128, 129, 1_023, 1_024, 1_024, any, longer,
@@ -44,9 +50,10 @@ impl Asked {
         }
     }
 
-    /// All in one chunk, from the largest sender and with the longest signature.
+    /// All rows in one chunk, from the largest sender and with the longest signature.
     pub fn largest() -> Self {
         Self {
+            peer: Entries::new(),
             most: u64::MAX,
             bytes: u64::MAX,
             sender: u64::MAX,
@@ -57,6 +64,15 @@ impl Asked {
     /// Whether the original reads an envelope with such a signature.
     pub fn fits(&self) -> bool {
         self.sig_len <= MAX_SIGNATURE as u64
+    }
+
+    /// What the original finds that the peer lacks.
+    pub fn delta(&self, pair: &Pair) -> Vec<StampedOperation> {
+        calculate_delta(&pair.original, &vector(&self.peer))
+    }
+
+    pub fn clock(&self) -> Area {
+        clock_area(&vector(&self.peer))
     }
 
     fn sig(&self) -> Vec<u8> {
@@ -84,19 +100,21 @@ impl Asked {
             bytes,
             sender,
             sig_len,
+            ..
         } = *self;
         sys::delta_sizes(store, clock, most, bytes, sender, sig_len, output)
     }
 
     /// The same through the wrapper.
-    pub fn sized(&self, delta: &Delta) -> Result<Vec<ChunkSize>, Refusal> {
+    pub fn sizes(&self, store: &Store) -> Result<Vec<ChunkSize>, Refusal> {
+        let delta = store.delta(&VectorClock::from_area(self.clock()))?;
         let (sender, sig_len) = (ActorId(self.sender), self.sig_len as usize);
         delta.sizes(self.most, self.bytes, sender, sig_len)
     }
 
     /// The frames that the port writes of its own chunks.
-    pub fn written(&self, store: &cuwelfra::Store, clock: Area) -> Result<Vec<Vec<u8>>, Refusal> {
-        let delta = store.delta(&VectorClock::from_area(clock))?;
+    pub fn written(&self, store: &Store) -> Result<Vec<Vec<u8>>, Refusal> {
+        let delta = store.delta(&VectorClock::from_area(self.clock()))?;
         let chunks = delta.chunks(self.most, self.bytes)?;
         let frames = chunks.into_iter().map(|rows| {
             let body = cuwelfra::Message::Delta(rows).encode()?;

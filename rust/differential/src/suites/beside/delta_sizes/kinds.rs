@@ -49,7 +49,9 @@ impl Spoilt {
 const ROWS: usize = 64;
 
 /// What is counted, and how often a case has it.
-const KINDS: [(&str, fn(&Case) -> usize); 29] = [
+type Kind = (&'static str, fn(&Case) -> usize);
+
+const KINDS: [Kind; 29] = [
     ("chunks", |case| case.chunks.len()),
     ("of 63 rows", |case| of_rows(case, 63)),
     ("of 64 rows", |case| of_rows(case, ROWS)),

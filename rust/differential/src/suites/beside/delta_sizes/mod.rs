@@ -8,21 +8,22 @@ mod kinds;
 pub use kinds::Kinds;
 
 use asked::{Asked, Frame};
-use cuwelfra::{ChunkSize, Refusal};
+use cuwelfra::Refusal;
 use kinds::{Case, Spoilt};
 use oracle::log::StampedOperation;
 use oracle::sync;
 
-use crate::original::beside::{clock_area, entries, log_of, vector, Pair};
+use crate::original::beside::{entries, log_of, Pair};
 use crate::original::full::{near_clock, Full};
 use crate::original::listed::{listed_in, List};
-use crate::port::area::{set_word, Area, BYTES};
+use crate::port::area::{set_word, BYTES};
 use crate::port::rows::SLOT;
 use crate::port::store::{Entries, LOGGED};
 use crate::rng::Rng;
+use crate::suites::beside::chunks::small;
 use crate::support::{agree, pattern, refused, Check, Outcome, Reach};
 use crate::world::messages::largest_row;
-use crate::world::{large_row, World};
+use crate::world::World;
 
 /// Logs of few rows, and logs at and near full size; for each some peers.
 const SMALL: usize = 25_000;
@@ -55,16 +56,6 @@ pub fn run(rng: &mut Rng) -> Outcome {
     kinds.finish()
 }
 
-/// A log of few rows, or of some that are large.
-fn small(rng: &mut Rng, world: &World) -> Pair {
-    if rng.once_in(3) {
-        let rows: Vec<_> = (0..rng.below(8)).map(|_| large_row(rng)).collect();
-        return Pair::of(rng, world, log_of(&rows, &Entries::new()));
-    }
-    let logged = rng.below(14);
-    Pair::new(rng, world, logged)
-}
-
 /// A peer that has nothing, or this clock.
 fn asked_of(rng: &mut Rng, pair: &mut Pair, near: Entries, kinds: &mut Kinds) -> Check {
     let peer = match rng.once_in(3) {
@@ -82,38 +73,30 @@ fn largest(rng: &mut Rng, kinds: &mut Kinds) -> Check {
     for _ in 0..20 {
         sizes(rng, &mut pair, &peer, kinds)?;
     }
-    let delta = sync::calculate_delta(&pair.original, &vector(&peer));
     let asked = Asked::largest();
-    let frame = asked.frame(&delta).bytes.len();
+    let frame = asked.frame(&asked.delta(&pair)).bytes.len();
     agree(&frame, &LARGEST, || "the original's largest frame".into())?;
-    answered(rng, &mut pair, &peer, &asked, kinds).map(|_| ())
+    answered(rng, &mut pair, &asked, kinds).map(|_| ())
 }
 
 /// Compares the sizes of a delta, and gives how many chunks there are.
 pub fn sizes(rng: &mut Rng, pair: &mut Pair, peer: &Entries, kinds: &mut Kinds) -> Reach {
-    let delta = sync::calculate_delta(&pair.original, &vector(peer));
-    let asked = Asked::any(rng, &delta);
+    let asked = Asked::any(rng, pair, peer);
     match asked.fits() {
-        true => answered(rng, pair, peer, &asked, kinds),
-        false => over_capacity(rng, pair, peer, &asked, kinds),
+        true => answered(rng, pair, &asked, kinds),
+        false => over_capacity(rng, pair, &asked, kinds),
     }
 }
 
 /// The original's chunks are what the port sizes, whatever the output; in some cases through the wrapper too, and in some
 /// the port writes the very frames.
-fn answered(
-    rng: &mut Rng,
-    pair: &mut Pair,
-    peer: &Entries,
-    asked: &Asked,
-    kinds: &mut Kinds,
-) -> Reach {
-    let delta = sync::calculate_delta(&pair.original, &vector(peer));
+fn answered(rng: &mut Rng, pair: &mut Pair, asked: &Asked, kinds: &mut Kinds) -> Reach {
+    let delta = asked.delta(pair);
     let chunks = sync::chunk_ops(&delta, asked.most as usize, asked.bytes as usize);
     assert_eq!(chunks.concat(), delta, "the chunks in order are the delta");
     let frames: Vec<Frame> = chunks.iter().map(|chunk| asked.frame(chunk)).collect();
-    let area = clock_area(&vector(peer));
-    let inputs = |pair: &Pair| format!("{asked:?} for {peer:?} of {}", pair.shown());
+    let area = asked.clock();
+    let inputs = |pair: &Pair| format!("{asked:?} of {}", pair.shown());
 
     let room = room(rng, frames.len(), delta.len(), pair.original.len());
     let numbers = frames.iter().flat_map(|frame| frame.size());
@@ -125,10 +108,12 @@ fn answered(
     let reach = listed_in(pair, room, &list, inputs, |store, output| {
         asked.call(store, &area, output)
     })?;
+    agree(&area, &asked.clock(), || inputs(pair))?;
     let wrapped = rng.once_in(4);
     if wrapped {
         let wanted = frames.iter().map(Frame::wrapped).collect();
-        agree(&sized(pair, area, asked), &Ok(wanted), || inputs(pair))?;
+        let sizes = pair.wrapped(|store| asked.sizes(store));
+        agree(&sizes, &Ok(wanted), || inputs(pair))?;
     }
     let written = rng.once_in(4);
     if written {
@@ -136,7 +121,7 @@ fn answered(
             true => Err(Refusal::OverCapacity),
             false => Ok(frames.iter().map(|frame| frame.bytes.clone()).collect()),
         };
-        let frames = pair.wrapped(|store| asked.written(store, area));
+        let frames = pair.wrapped(|store| asked.written(store));
         agree(&frames, &wanted, || format!("frames, {}", inputs(pair)))?;
     }
     pair.same(|| inputs(pair))?;
@@ -169,24 +154,9 @@ fn room(rng: &mut Rng, chunks: usize, rows: usize, logged: usize) -> usize {
     }
 }
 
-/// The sizes through the wrapper.
-fn sized(pair: &mut Pair, area: Area, asked: &Asked) -> Result<Vec<ChunkSize>, Refusal> {
-    pair.wrapped(|store| {
-        let delta = store.delta(&cuwelfra::VectorClock::from_area(area))?;
-        asked.sized(&delta)
-    })
-}
-
 /// Too long a signature is told before all else: whatever the output, the clock and the store are.
-fn over_capacity(
-    rng: &mut Rng,
-    pair: &mut Pair,
-    peer: &Entries,
-    asked: &Asked,
-    kinds: &mut Kinds,
-) -> Reach {
-    let area = clock_area(&vector(peer));
-    let (mut store, mut clock) = (pair.areas.clone(), area.to_vec());
+fn over_capacity(rng: &mut Rng, pair: &mut Pair, asked: &Asked, kinds: &mut Kinds) -> Reach {
+    let (mut store, mut clock) = (pair.areas.clone(), asked.clock().to_vec());
     let spoilt = rng.pick(&Spoilt::ALL);
     match spoilt {
         Spoilt::Nothing => {}
@@ -196,7 +166,7 @@ fn over_capacity(
         Spoilt::UnsoundStore => store.head[8] = 1,
     }
     let room = rng.pick(&[0, 15, 16, 16 * LOGGED]);
-    let inputs = |pair: &Pair| format!("{asked:?}, {spoilt:?}, for {peer:?} of {}", pair.shown());
+    let inputs = |pair: &Pair| format!("{asked:?}, {spoilt:?}, of {}", pair.shown());
     let mut output = pattern(room);
     let lent = (store.clone(), clock.clone());
     let answer = asked.call(store.lent(), &clock, &mut output);
@@ -207,8 +177,8 @@ fn over_capacity(
     agree(&(lent == (store, clock)), &true, || inputs(pair))?;
     let wrapped = rng.once_in(4);
     if wrapped {
-        let wanted = Err(Refusal::OverCapacity);
-        agree(&sized(pair, area, asked), &wanted, || inputs(pair))?;
+        let sizes = pair.wrapped(|store| asked.sizes(store));
+        agree(&sizes, &Err(Refusal::OverCapacity), || inputs(pair))?;
     }
     kinds.note(&Case {
         asked,
