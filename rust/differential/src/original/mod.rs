@@ -12,6 +12,8 @@ pub mod messages;
 pub mod numbers;
 mod pending;
 pub mod replica;
+pub mod sent;
+pub mod sized;
 
 use cuwelfra_sys::{NumberRead, PartRead, Told};
 use oracle::error::{ClockError, CodecError};

@@ -1,11 +1,11 @@
 //! The delta's chunks as row counts, at limits around the exact sizes.
 
 use cuwelfra_sys as sys;
-use oracle::log::StampedOperation;
 use oracle::sync;
 
 use crate::original::beside::{clock_area, entries, log_of, vector, Pair};
 use crate::original::listed::listed;
+use crate::original::sent::byte_limit;
 use crate::port::store::Entries;
 use crate::rng::Rng;
 use crate::support::{agree, Outcome, Reach};
@@ -40,23 +40,6 @@ pub fn small(rng: &mut Rng, world: &World) -> Pair {
     }
     let logged = rng.below(14);
     Pair::new(rng, world, logged)
-}
-
-/// A byte limit around the size of some rows in a row, or an end.
-pub fn byte_limit(rng: &mut Rng, ops: &[StampedOperation]) -> u64 {
-    if ops.is_empty() || rng.once_in(4) {
-        return rng.pick(&[0, 1, 40, u64::MAX - 1, u64::MAX]);
-    }
-    let first = rng.below(ops.len());
-    let last = first + rng.below(ops.len() - first);
-    let sizes = ops[first..=last].iter().map(size);
-    let sum = sizes.sum::<usize>() as u64;
-    rng.pick(&[sum - 1, sum, sum, sum + 1])
-}
-
-/// What a row counts in a chunk.
-pub fn size(op: &StampedOperation) -> usize {
-    op.signing_bytes().len() + op.signature.len() + 16
 }
 
 /// Compares the chunks of a delta, and gives how many there are.

@@ -8,11 +8,11 @@ use oracle::log::ReplicatedLog;
 use crate::original::beside::{entries, stamp, Pair};
 use crate::original::full::{near_clock, Full, HELD_ROWS};
 use crate::original::joined::Joined;
+use crate::original::sized::Kinds;
 use crate::port::area::AUTHORS;
 use crate::port::store::LOGGED;
 use crate::rng::Rng;
-use crate::suites::beside::delta_sizes::{self, Kinds};
-use crate::suites::beside::{chunks, compact, cutoff, delta, lookup, peer_pending};
+use crate::suites::beside::{chunks, compact, cutoff, delta, delta_sizes, lookup, peer_pending};
 use crate::support::{note, Check, Outcome};
 use crate::world::lists::gated;
 

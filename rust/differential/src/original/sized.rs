@@ -1,13 +1,14 @@
-//! How often each kind of case was met.
+//! Deltas that were sized, and how often each kind of them was met.
 
 use oracle::codec::MAX_SIGNATURE;
 use oracle::log::StampedOperation;
 
-use super::asked::{Asked, Frame};
-use super::Chunk;
+use crate::original::sent::{size, Asked, Frame};
 use crate::port::store::LOGGED;
-use crate::suites::beside::chunks::size;
 use crate::support::{note, Outcome};
+
+/// A chunk of the original.
+type Chunk = Vec<StampedOperation>;
 
 pub struct Case<'a> {
     pub asked: &'a Asked,

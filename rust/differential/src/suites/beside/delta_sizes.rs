@@ -2,20 +2,14 @@
 //! an envelope. Small logs, large rows, logs of up to 1,024 rows; limits around exact sums. Fails unless every kind of case
 //! was met.
 
-mod asked;
-mod kinds;
-
-pub use kinds::Kinds;
-
-use asked::{Asked, Frame};
 use cuwelfra::Refusal;
-use kinds::{Case, Spoilt};
-use oracle::log::StampedOperation;
 use oracle::sync;
 
 use crate::original::beside::{entries, log_of, Pair};
 use crate::original::full::{near_clock, Full};
 use crate::original::listed::{listed_in, List};
+use crate::original::sent::{Asked, Frame};
+use crate::original::sized::{Case, Kinds, Spoilt};
 use crate::port::area::{set_word, BYTES};
 use crate::port::rows::SLOT;
 use crate::port::store::{Entries, LOGGED};
@@ -193,6 +187,3 @@ fn over_capacity(rng: &mut Rng, pair: &mut Pair, asked: &Asked, kinds: &mut Kind
     });
     Ok(None)
 }
-
-/// A chunk of the original.
-type Chunk = Vec<StampedOperation>;

@@ -1,4 +1,4 @@
-//! What is asked beside a store, and the frames that the original and the port make by it.
+//! What is asked of a store that sends: limits of chunks, and by them the frames that the original and the port make.
 
 use cuwelfra::{ActorId, ChunkSize, Refusal, Store, VectorClock};
 use cuwelfra_sys::{self as sys, ClockNumber};
@@ -11,9 +11,26 @@ use crate::original::beside::{clock_area, vector, Pair};
 use crate::port::area::Area;
 use crate::port::store::Entries;
 use crate::rng::Rng;
-use crate::suites::beside::chunks::byte_limit;
 use crate::world::boundary;
 
+/// A byte limit around the size of some rows in a row, or an end.
+pub fn byte_limit(rng: &mut Rng, ops: &[StampedOperation]) -> u64 {
+    if ops.is_empty() || rng.once_in(4) {
+        return rng.pick(&[0, 1, 40, u64::MAX - 1, u64::MAX]);
+    }
+    let first = rng.below(ops.len());
+    let last = first + rng.below(ops.len() - first);
+    let sizes = ops[first..=last].iter().map(size);
+    let sum = sizes.sum::<usize>() as u64;
+    rng.pick(&[sum - 1, sum, sum, sum + 1])
+}
+
+/// What a row counts in a chunk.
+pub fn size(op: &StampedOperation) -> usize {
+    op.signing_bytes().len() + op.signature.len() + 16
+}
+
+/// A question after the sizes of a delta.
 #[derive(Debug)]
 pub struct Asked {
     /// The clock of the peer.
