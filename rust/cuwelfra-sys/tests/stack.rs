@@ -2,9 +2,9 @@
 
 use std::thread;
 
-use cuwelfra_sys::{apply_delta, decode_frame, encode_ack, encode_delta, encode_envelope};
-use cuwelfra_sys::{from_parts, prepare, read_op, seal};
-use cuwelfra_sys::{AreasMut, HybridParts, Preparation, Settings};
+use cuwelfra_sys::{apply_delta, decode_frame, delta_sizes, encode_ack, encode_delta};
+use cuwelfra_sys::{encode_envelope, from_parts, prepare, read_op, seal};
+use cuwelfra_sys::{Areas, AreasMut, HybridParts, Preparation, Settings};
 
 const STACK_BYTES: usize = 32 * 1024;
 const ROWS: usize = 1_024;
@@ -95,6 +95,18 @@ fn a_store_of_1024_parts() {
     });
     assert_eq!(told.number, 0);
     assert_eq!(store.head[..8], 1_024u64.to_be_bytes());
+
+    // All of them, each of 8 bytes, in one message from 7 with a signature of 64 bytes.
+    let bytes: u64 = 1 + 2 + (1 + 2 + 1_024 * 8) + 1 + 64;
+    let mut output = [0; 16];
+    let sizes = on_a_small_stack(|| {
+        let Store { log, held, head } = &store;
+        let areas = Areas { log, held, head };
+        delta_sizes(areas, &compacted, u64::MAX, u64::MAX, 7, 64, &mut output)
+    });
+    assert_eq!((sizes.told.number, sizes.number), (0, 1));
+    assert_eq!(output[..8], 1_024u64.to_be_bytes());
+    assert_eq!(output[8..], bytes.to_be_bytes());
 }
 
 /// A row of 624 bytes to sign, and one with the largest signature and payload that is sealed.

@@ -71,12 +71,10 @@ fn frames(words: &mut Words, out: bool) -> Result<Option<Frames>, Error> {
     let sender = words.number("--sender")?;
     let signature = words.number("--signature")?;
     match sizes {
-        true if out => {
-            Err(words.lacking("--sizes counts and writes nothing, so --out cannot stand beside it"))
-        }
+        true if out => Err(words.lacking("--sizes only counts, so --out cannot stand beside it")),
         true => Ok(Some(Frames::new(sender, signature))),
         false if sender.or(signature).is_some() => {
-            Err(words.lacking("--sizes is missing, for which alone --sender and --signature are"))
+            Err(words.lacking("--sender and --signature go with --sizes alone"))
         }
         false => Ok(None),
     }

@@ -132,15 +132,15 @@ fn wrong_words() {
         ),
         (
             "delta a.store ab.store --sizes --out out.txt",
-            &format!("--sizes counts and writes nothing, so --out cannot stand beside it; {delta}"),
+            &format!("--sizes only counts, so --out cannot stand beside it; {delta}"),
         ),
         (
             "delta a.store ab.store --sender 7",
-            &format!("--sizes is missing, for which alone --sender and --signature are; {delta}"),
+            &format!("--sender and --signature go with --sizes alone; {delta}"),
         ),
         (
             "delta a.store ab.store --signature 0 --out out.txt",
-            &format!("--sizes is missing, for which alone --sender and --signature are; {delta}"),
+            &format!("--sender and --signature go with --sizes alone; {delta}"),
         ),
         ("delta a.store ab.store --sizes --sender", delta),
         (

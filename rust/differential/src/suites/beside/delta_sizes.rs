@@ -21,7 +21,7 @@ use crate::world::World;
 
 /// Logs of few rows, and logs at and near full size; for each some peers.
 const SMALL: usize = 25_000;
-const FULL: usize = 1_000;
+const FULL: usize = 2_000;
 
 /// A frame of 1,024 rows of the largest numbers and parts, from the largest sender and with the longest signature: the
 /// sender, the body's length, the body (tag, count, rows of 689 bytes), the signature's length, the signature.
