@@ -99,8 +99,9 @@ pub fn all() -> impl Iterator<Item = &'static Suite> {
 }
 
 /// The suites that run longest, in falling order.
-pub const LONGEST: [&str; 12] = [
+pub const LONGEST: [&str; 13] = [
     "expiring",
+    "delta-sizes",
     "call-lists",
     "full-size",
     "replica",
