@@ -1,16 +1,21 @@
-//! Deltas that were sized, and how often each kind of them was met.
+//! Questions after the sizes of deltas, and how often each kind of them was met.
+
+use std::collections::BTreeSet;
 
 use oracle::codec::MAX_SIGNATURE;
-use oracle::log::StampedOperation;
+use oracle::log::{ReplicatedLog, StampedOperation};
 
 use crate::original::sent::{size, Asked, Frame};
+use crate::port::area::AUTHORS;
 use crate::port::store::LOGGED;
 use crate::support::{note, Outcome};
 
 /// A chunk of the original.
 type Chunk = Vec<StampedOperation>;
 
+/// A question and what came of it.
 pub struct Case<'a> {
+    pub log: &'a ReplicatedLog,
     pub asked: &'a Asked,
     pub delta: &'a [StampedOperation],
     pub chunks: &'a [Chunk],
@@ -52,85 +57,87 @@ const ROWS: usize = 64;
 /// What is counted, and how often a case has it.
 type Kind = (&'static str, fn(&Case) -> usize);
 
-const KINDS: [Kind; 29] = [
-    ("chunks", |case| case.chunks.len()),
-    ("of 63 rows", |case| of_rows(case, 63)),
-    ("of 64 rows", |case| of_rows(case, ROWS)),
-    ("of 65 rows", |case| of_rows(case, 65)),
-    ("above 64 rows", above),
-    ("of 1,024 rows", |case| of_rows(case, LOGGED)),
-    ("rows alone above the bytes of a chunk", oversized),
-    ("empty deltas", |case| {
-        counted(case.refused == 0 && case.delta.is_empty())
-    }),
-    ("of these with no output", |case| {
-        counted(case.refused == 0 && case.delta.is_empty() && case.room == 0)
+const KINDS: [Kind; 32] = [
+    ("logs of 1,024 rows and 32 authors", |case| {
+        counted(is_full(case.log))
     }),
     ("deltas of 1,024 rows", |case| {
         counted(case.delta.len() == LOGGED)
     }),
-    ("messages whose length has 1 byte", |case| {
+    ("empty deltas", |case| counted(is_empty(case))),
+    ("empty ones with no output", |case| {
+        counted(is_empty(case) && case.room == 0)
+    }),
+    ("chunks", |case| case.chunks.len()),
+    ("chunks of 64 rows", |case| of_rows(case, ROWS)),
+    ("chunks of 65 rows", |case| of_rows(case, 65)),
+    ("chunks above 64 rows", above),
+    ("chunks of 1,024 rows", |case| of_rows(case, LOGGED)),
+    ("rows alone above the bytes of a chunk", oversized),
+    ("bodies whose length has 1 byte", |case| {
         bodies(case, 0, 1 << 7)
     }),
     ("2 bytes", |case| bodies(case, 1 << 7, 1 << 14)),
     ("3 bytes", |case| bodies(case, 1 << 14, 1 << 21)),
-    ("senders of 1 byte", |case| {
-        counted(case.asked.sender < 1 << 7)
-    }),
-    ("of 10 bytes", |case| counted(case.asked.sender >= 1 << 63)),
-    ("signatures of 0 bytes", |case| {
-        counted(case.asked.sig_len == 0)
-    }),
-    ("of 127", |case| counted(case.asked.sig_len == 127)),
-    ("of 128", |case| counted(case.asked.sig_len == 128)),
-    ("of 1,024", |case| {
-        counted(case.asked.sig_len == MAX_SIGNATURE as u64)
-    }),
+    ("signatures of 0 bytes", |case| signature(case, 0)),
+    ("127 bytes", |case| signature(case, 127)),
+    ("128 bytes", |case| signature(case, 128)),
+    ("1,024 bytes", |case| signature(case, MAX_SIGNATURE as u64)),
     ("outputs of exactly 16 bytes a chunk", |case| {
-        counted(!case.chunks.is_empty() && case.room == 16 * case.chunks.len())
+        output(case, 0, 16 * case.chunks.len())
     }),
-    ("longer ones", |case| {
+    ("longer outputs", |case| {
         counted(case.refused == 0 && case.room > 16 * case.chunks.len())
     }),
-    ("refused with 2 for the output", |case| {
-        counted(case.refused == 2)
+    ("2 for the output", |case| counted(case.refused == 2)),
+    ("2 a byte short", |case| {
+        output(case, 2, (16 * case.chunks.len()).wrapping_sub(1))
     }),
-    ("a byte short", |case| {
-        counted(case.refused == 2 && case.room + 1 == 16 * case.chunks.len())
+    ("2 with 8 bytes a chunk", |case| {
+        output(case, 2, 8 * case.chunks.len())
     }),
-    ("8 bytes a chunk", |case| {
-        counted(case.refused == 2 && case.room == 8 * case.chunks.len())
+    ("4 at 1,025 bytes", |case| {
+        signature(case, MAX_SIGNATURE as u64 + 1)
     }),
-    ("refused with 4", |case| counted(case.refused == 4)),
-    ("with another fault beside it", |case| {
-        counted(case.spoilt.is_some_and(|spoilt| spoilt != Spoilt::Nothing))
+    ("4 at 2^64 - 1 bytes", |case| signature(case, u64::MAX)),
+    ("4 alone", |case| spoilt(case, Spoilt::Nothing)),
+    ("4 before a short clock", |case| {
+        spoilt(case, Spoilt::ShortClock)
     }),
+    ("an unsound clock", |case| {
+        spoilt(case, Spoilt::UnsoundClock)
+    }),
+    ("a short store", |case| spoilt(case, Spoilt::ShortStore)),
+    ("an unsound store", |case| {
+        spoilt(case, Spoilt::UnsoundStore)
+    }),
+    ("cases through the wrapper", |case| counted(case.wrapped)),
     ("frames that the port wrote", written),
     ("chunks that it refused to write", |case| {
-        match case.written {
-            true => above(case),
-            false => 0,
-        }
+        counted(case.written) * above(case)
     }),
-    ("cases of the wrapper", |case| counted(case.wrapped)),
 ];
 
 fn counted(met: bool) -> usize {
     usize::from(met)
 }
 
+fn is_full(log: &ReplicatedLog) -> bool {
+    log.len() == LOGGED && log.clock().peers.len() == AUTHORS
+}
+
+fn is_empty(case: &Case) -> bool {
+    case.refused == 0 && case.delta.is_empty()
+}
+
 fn of_rows(case: &Case, rows: usize) -> usize {
-    case.chunks
-        .iter()
-        .filter(|chunk| chunk.len() == rows)
-        .count()
+    let chunks = case.chunks.iter();
+    chunks.filter(|chunk| chunk.len() == rows).count()
 }
 
 fn above(case: &Case) -> usize {
-    case.chunks
-        .iter()
-        .filter(|chunk| chunk.len() > ROWS)
-        .count()
+    let chunks = case.chunks.iter();
+    chunks.filter(|chunk| chunk.len() > ROWS).count()
 }
 
 fn oversized(case: &Case) -> usize {
@@ -144,20 +151,37 @@ fn bodies(case: &Case, least: usize, end: usize) -> usize {
     case.frames.iter().filter(within).count()
 }
 
+fn signature(case: &Case, len: u64) -> usize {
+    counted(case.asked.sig_len == len)
+}
+
+/// Whether chunks were asked for with an output of so many bytes, and this number was told.
+fn output(case: &Case, refused: u64, room: usize) -> usize {
+    counted(!case.chunks.is_empty() && case.refused == refused && case.room == room)
+}
+
+fn spoilt(case: &Case, spoilt: Spoilt) -> usize {
+    counted(case.spoilt == Some(spoilt))
+}
+
 /// Where one chunk is refused none is counted.
 fn written(case: &Case) -> usize {
-    match case.written && above(case) == 0 {
-        true => case.frames.len(),
-        false => 0,
-    }
+    counted(case.written && above(case) == 0) * case.frames.len()
+}
+
+/// The numbers at which a varint becomes longer, and the last.
+fn edges() -> impl Iterator<Item = u64> {
+    let powers = (0..10).map(|i| 1 << (7 * i));
+    powers
+        .flat_map(|power: u64| [power - 1, power])
+        .chain([u64::MAX])
 }
 
 #[derive(Default)]
 pub struct Kinds {
     cases: u64,
     counts: [u64; KINDS.len()],
-    /// Of 4 beside each other fault.
-    spoilt: [u64; Spoilt::ALL.len()],
+    senders: BTreeSet<u64>,
 }
 
 impl Kinds {
@@ -166,27 +190,23 @@ impl Kinds {
         for (count, (_, times)) in self.counts.iter_mut().zip(KINDS) {
             *count += times(case) as u64;
         }
-        for (count, spoilt) in self.spoilt.iter_mut().zip(Spoilt::ALL) {
-            *count += u64::from(case.spoilt == Some(spoilt));
+        if !case.chunks.is_empty() {
+            self.senders.insert(case.asked.sender);
         }
     }
 
-    /// Prints the counts. Requires that each kind was met.
+    /// Prints the counts. Requires that each kind was met, and each sender at which a varint becomes longer.
     pub fn finish(&self) -> Outcome {
-        let kinds = KINDS.iter().map(|(name, _)| (*name).to_owned());
-        let kinds = kinds.zip(self.counts);
-        let spoilt = Spoilt::ALL
-            .iter()
-            .map(|spoilt| format!("4 beside {spoilt:?}"));
-        let counted: Vec<(String, u64)> = kinds.chain(spoilt.zip(self.spoilt)).collect();
-        let listed: Vec<String> = counted
-            .iter()
-            .map(|(name, n)| format!("{name} {n}"))
-            .collect();
+        let counted = KINDS.iter().zip(self.counts);
+        let listed = counted.clone().map(|((name, _), n)| format!("{name} {n}"));
+        let listed: Vec<String> = listed.collect();
         note(&format!("delta-sizes: {}", listed.join(", ")));
-        match counted.iter().find(|(_, count)| *count == 0) {
-            Some((name, _)) => Err(format!("  delta-sizes: never met: {name}")),
-            None => Ok(self.cases),
+        if let Some(((name, _), _)) = counted.clone().find(|(_, count)| *count == 0) {
+            return Err(format!("  delta-sizes: never met: {name}"));
         }
+        if let Some(sender) = edges().find(|edge| !self.senders.contains(edge)) {
+            return Err(format!("  delta-sizes: no chunk from sender {sender}"));
+        }
+        Ok(self.cases)
     }
 }

@@ -120,6 +120,7 @@ fn answered(rng: &mut Rng, pair: &mut Pair, asked: &Asked, kinds: &mut Kinds) ->
     }
     pair.same(|| inputs(pair))?;
     kinds.note(&Case {
+        log: &pair.original,
         asked,
         delta: &delta,
         chunks: &chunks,
@@ -175,6 +176,7 @@ fn over_capacity(rng: &mut Rng, pair: &mut Pair, asked: &Asked, kinds: &mut Kind
         agree(&sizes, &Err(Refusal::OverCapacity), || inputs(pair))?;
     }
     kinds.note(&Case {
+        log: &pair.original,
         asked,
         delta: &[],
         chunks: &[],
