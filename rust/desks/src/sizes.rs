@@ -43,7 +43,7 @@ impl Frames {
         let (sender, signature) = (self.sender.0, counted(self.sig_len, "byte"));
         paragraph(&format!(
             "The bytes are those of each Delta message in its envelope, from sender {sender} and with a signature of \
-             {signature}. --sender N and --signature N count with others; a sender's number takes 1 to 10 bytes."
+             {signature}. Name others with --sender N and --signature N; a sender's number takes 1 to 10 bytes."
         ))
     }
 }

@@ -10,7 +10,7 @@ use crate::table::paragraph;
 fn named(sender: u64, signature: &str) -> String {
     let one = format!(
         "The bytes are those of each Delta message in its envelope, from sender {sender} and with a signature of \
-         {signature}. --sender N and --signature N count with others; a sender's number takes 1 to 10 bytes."
+         {signature}. Name others with --sender N and --signature N; a sender's number takes 1 to 10 bytes."
     );
     paragraph(&one)
 }
