@@ -45,14 +45,14 @@ unfolding putAt
 take-put s vs = take-at vs (drop (0 + length vs) s) (length vs) refl
 
 -- ---- the rows
-counted : {most bytes : ℕ} (sender sigLen : ℕ) {ns : List ℕ} {rows : List Row} → Chunked most bytes ns rows → rowsOfEach (figuresOfEach sender sigLen (cut ns rows)) ≡ ns
+counts : {most bytes : ℕ} (sender sigLen : ℕ) {ns : List ℕ} {rows : List Row} → Chunked most bytes ns rows → rowsOfEach (figuresOfEach sender sigLen (cut ns rows)) ≡ ns
 unfolding rowsOfEach figuresOfEach figuresOf cut
-counted sender sigLen no-chunks = refl
-counted sender sigLen (next-chunk {n} chunk rest e l p h k c) = rw (e, take-at chunk rest n l, drop-at chunk rest n l, l) (ap (λ (t : List ℕ). n ∷ t) (counted sender sigLen c))
+counts sender sigLen no-chunks = refl
+counts sender sigLen (next-chunk {n} chunk rest e l p h k c) = rw (e, take-at chunk rest n l, drop-at chunk rest n l, l) (ap (λ (t : List ℕ). n ∷ t) (counts sender sigLen c))
 
 pub rows-counted : RowsCounted
 unfolding deltaSizes
-rows-counted rows perChunk bytes sender sigLen = counted sender sigLen (chunks-are rows perChunk bytes)
+rows-counted rows perChunk bytes sender sigLen = counts sender sigLen (chunks-are rows perChunk bytes)
 
 -- what a call that lists numbers has listed
 listed-are : (output left : List ℕ) (b : Bool) (ns : List ℕ) (n : ℕ) → list output (unless b ShortArea (done ns)) ≡ ends (done n) left

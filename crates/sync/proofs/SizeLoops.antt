@@ -282,8 +282,9 @@ module _ (s : List ℕ) (n : ℕ) (es : List (ℕ × ℕ)) (most bytes room : �
       (le-leb (16 * many) room
       (omega (arith, chunks-few most bytes 0 0 (deltaRows es (rowsIn s n)), lacking-few es (rowsIn s n), length-rows-in s n)))
 
-  pub chunk-room : (k : ℕ) → k ≡ many → leb k (room / 16) ≡ leb (16 * many) room
-  chunk-room k e = elim (lt-or-le (room / 16) k) [
-    | inl h ↦ lt-leb k (room / 16) h ∙ sym (lt-leb (16 * many) room (omega arith))
-    | inr h ↦ le-leb k (room / 16) h ∙ sym (le-leb (16 * many) room (omega arith))
+  -- q is what the code tests the chunks against
+  pub chunk-room : (k q : ℕ) → k ≡ many → q ≡ room / 16 → leb k q ≡ leb (16 * many) room
+  chunk-room k q e f = elim (lt-or-le q k) [
+    | inl h ↦ lt-leb k q h ∙ sym (lt-leb (16 * many) room (omega arith))
+    | inr h ↦ le-leb k q h ∙ sym (le-leb (16 * many) room (omega arith))
   ]

@@ -15,7 +15,8 @@ use Rattle.codec.specs.Envelopes.{envelope}
 use Rattle.row.specs.Rows.{Row}
 use Rattle.log.specs.Store.{Store}
 use Rattle.log.specs.Areas.{Areas, readStore}
-use Rattle.message.specs.Messages.{delta, messageOk, messageBytes}
+use Rattle.message.specs.Messages as message
+use Rattle.message.specs.Messages.{messageOk, messageBytes}
 use Rattle.message.specs.Calls.{lentRows, encodeDelta}
 use Rattle.sync.specs.Delta.{deltaRows, chunkOps, chunkCall}
 use Rattle.sync.specs.Sizes.{Figures, cut, figuresOf, deltaSizes, sizesAnswer}
@@ -52,7 +53,7 @@ ChunksJoined = (rows : List Row) (perChunk bytes : ℕ) → joined (cut (chunkOp
 -- gives its bytes"
 abbrev pub RealFrame : Type 0
 RealFrame = (rows : List Row) (sender : Author) (sig : Bytes)
-    → figuresOf sender (length sig) rows .bytes ≡ length (envelope sender (messageBytes (delta rows)) sig)
+    → figuresOf sender (length sig) rows .bytes ≡ length (envelope sender (messageBytes (message.delta rows)) sig)
 
 -- so the calls: where encode_delta writes `len` bytes of these rows, and encode_envelope `sent` bytes around them
 abbrev pub RealCalls : Type 0
@@ -67,4 +68,4 @@ abbrev pub ChunkOk : Type 0
 ChunkOk =
     (a : Areas) (s : Store) (es : Clock) (perChunk bytes : ℕ) (chunk : List Row) (before after : List (List Row)) → readStore a ≡ done s
     → cut (chunkOps (deltaRows es (s .log)) perChunk bytes) (deltaRows es (s .log)) ≡ before ++ (chunk ∷ after) → length chunk ≤ mostBatch
-    → messageOk (delta chunk) ≡ true
+    → messageOk (message.delta chunk) ≡ true

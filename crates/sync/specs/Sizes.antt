@@ -12,7 +12,8 @@ use Rattle.error.specs.Answer.{Answer, done, refused, unless, Ends, ends}
 use Rattle.codec.specs.Envelopes.{maxSignature, envelope}
 use Rattle.row.specs.Rows.{Row}
 use Rattle.log.specs.Areas.{Areas}
-use Rattle.message.specs.Messages.{delta, messageBytes}
+use Rattle.message.specs.Messages as message
+use Rattle.message.specs.Messages.{messageBytes}
 use Rattle.sync.specs.Delta.{deltaRows, chunkOps, overPeer}
 
 -- ---- the chunks themselves
@@ -32,7 +33,7 @@ pub record Figures : Type 0 where
 -- `RealFrame` says
 unfoldable pub figuresOf : (sender : Author) (sigLen : ℕ) → List Row → Figures
 figuresOf sender sigLen rows =
-    record { rows = length rows; bytes = length (envelope sender (messageBytes (delta rows)) (replicate sigLen 0)) }
+    record { rows = length rows; bytes = length (envelope sender (messageBytes (message.delta rows)) (replicate sigLen 0)) }
 
 unfoldable pub figuresOfEach : (sender : Author) (sigLen : ℕ) → List (List Row) → List Figures
 figuresOfEach sender sigLen [] = []

@@ -1,18 +1,21 @@
 // The delta in chunks: how many there are, and how many rows each holds.
 use crate::scan::is_missing;
 use clock::vector::VectorClock;
+use codec::varint_len;
 use row::raw::read_slot;
 use row::raw::unsigned_len;
 use words::raw::put_word;
 ghost use mathlib.Core.Path.{_≡_};
 ghost use mathlib.Core.Bool.{true};
-ghost use Prim.Native.Nat.{_*_, _≤_};
+ghost use Prim.Native.Nat.{_+_, _*_, _≤_};
 ghost use lib.ListN.{length};
 ghost use Rattle.clock.specs.Vector.{entries};
+ghost use Rattle.codec.specs.inside.EnvelopeParts.{sizedLength};
 ghost use Rattle.row.specs.Slots.{slotAt, slotOk};
 ghost use Rattle.log.specs.inside.StoreTests.{rowAt};
 ghost use Rattle.sync.specs.Delta.{deltaRows, rowSize, atLeastOne, chunks};
 ghost use Rattle.sync.specs.inside.DeltaSteps.{Ready, Puts, startsNext};
+ghost use Rattle.sync.specs.inside.SizeSteps.{RowSizes};
 ghost use Rattle.log.specs.inside.StoreChanges.{rowsIn};
 
 // No rows a chunk means 1.
@@ -25,14 +28,44 @@ pub(crate) fn at_least_one(n: u64) -> u64
     n
 }
 
-// The size of the row in the slot at `at`: signed bytes, signature, and 16 for framing.
+// The length of n bytes, their length first.
+pub(crate) fn sized_len(n: u64) -> u64
+    requires { ⌜ n ≤ 1048576 ⌝ }
+    ensures { λ r. ⌜ (r ≡ sizedLength n) × (r ≤ n + 10) ⌝ }
+{
+    varint_len(n) as u64 + n
+}
+
+// What a row adds to a chunk: its size (signed bytes, signature, and 16 for framing), and the bytes that it has in a Delta.
+pub(crate) struct RowSize {
+    pub size: u64,
+    pub bytes: u64,
+}
+
+// Both of the row in the slot at `at`.
+pub(crate) fn row_sizes(rows: &[u8], at: usize) -> RowSize
+    requires { ⌜ slotOk (slotAt (now rows) at) ≡ true ⌝ }
+    ensures { λ r. ⌜ RowSizes (rowAt (now (rows .entry)) at) (r .size) (r .bytes) ⌝ }
+{
+    let held = read_slot(rows, at);
+    let op = held.op;
+    let unsigned = unsigned_len(op) as u64;
+    let signature = op.signature_len as u64;
+    let sized_signature = sized_len(signature);
+    let size = unsigned + signature + 16;
+    let bytes = unsigned + sized_signature;
+    RowSize {
+        size: size,
+        bytes: bytes,
+    }
+}
+
+// The first of them.
 fn row_size(rows: &[u8], at: usize) -> u64
     requires { ⌜ slotOk (slotAt (now rows) at) ≡ true ⌝ }
     ensures { λ r. ⌜ (r ≡ rowSize (rowAt (now (rows .entry)) at)) × (r ≤ 726) ⌝ }
 {
-    let held = read_slot(rows, at);
-    let op = held.op;
-    (unsigned_len(op) + op.signature_len + 16) as u64
+    row_sizes(rows, at).size
 }
 
 // Whether a row that would make the current chunk's n rows `size` bytes long starts the next chunk.

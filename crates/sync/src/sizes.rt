@@ -1,15 +1,14 @@
 // How much a delta sends: the rows and the bytes of each chunk.
 use crate::chunk::count_chunks;
+use crate::chunk::row_sizes;
+use crate::chunk::sized_len;
 use crate::chunk::starts_next;
 use crate::scan::is_missing;
 use clock::vector::VectorClock;
 use codec::varint_len;
-use row::raw::read_slot;
-use row::raw::unsigned_len;
 use stubs::ActorId;
 use words::raw::put_word;
 ghost use mathlib.Core.Path.{_≡_};
-ghost use mathlib.Core.Bool.{true};
 ghost use mathlib.Core.List.{[], _∷_};
 ghost use Prim.Native.Nat.{_+_, _*_, _≤_};
 ghost use lib.ListN.{length};
@@ -17,45 +16,11 @@ ghost use lib.Dec.{leb};
 ghost use Rattle.words.specs.Be.{bes};
 ghost use Rattle.words.specs.Areas.{putAt};
 ghost use Rattle.clock.specs.Vector.{entries};
-ghost use Rattle.codec.specs.inside.EnvelopeParts.{sizedLength, envelopeLength};
-ghost use Rattle.row.specs.Slots.{slotAt, slotOk};
-ghost use Rattle.log.specs.inside.StoreTests.{rowAt};
+ghost use Rattle.codec.specs.inside.EnvelopeParts.{envelopeLength};
 ghost use Rattle.log.specs.inside.StoreChanges.{rowsIn};
 ghost use Rattle.sync.specs.Delta.{deltaRows, chunks};
 ghost use Rattle.sync.specs.inside.DeltaSteps.{Ready, Puts};
-ghost use Rattle.sync.specs.inside.SizeSteps.{RowSizes, deltaLength, toCome};
-
-// The length of n bytes, their length first.
-fn sized_len(n: u64) -> u64
-    requires { ⌜ n ≤ 1048576 ⌝ }
-    ensures { λ r. ⌜ (r ≡ sizedLength n) × (r ≤ n + 10) ⌝ }
-{
-    varint_len(n) as u64 + n
-}
-
-// What a row adds to a chunk: the size that chunk_ops counts, and the bytes that it has in a Delta.
-struct RowSize {
-    size: u64,
-    bytes: u64,
-}
-
-// Both of the row in the slot at `at`.
-fn row_sizes(rows: &[u8], at: usize) -> RowSize
-    requires { ⌜ slotOk (slotAt (now rows) at) ≡ true ⌝ }
-    ensures { λ r. ⌜ RowSizes (rowAt (now (rows .entry)) at) (r .size) (r .bytes) ⌝ }
-{
-    let held = read_slot(rows, at);
-    let op = held.op;
-    let unsigned = unsigned_len(op) as u64;
-    let signature = op.signature_len as u64;
-    let sized_signature = sized_len(signature);
-    let size = unsigned + signature + 16;
-    let bytes = unsigned + sized_signature;
-    RowSize {
-        size: size,
-        bytes: bytes,
-    }
-}
+ghost use Rattle.sync.specs.inside.SizeSteps.{deltaLength, toCome};
 
 // The length of an envelope around a Delta of n rows, which have so many bytes: tag, count and rows.
 fn frame_len(sender: ActorId, n: u64, row_bytes: u64, sig_len: u64) -> u64

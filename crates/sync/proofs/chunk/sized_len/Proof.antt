@@ -2,8 +2,8 @@ use native.Mathlib.Omega.{arith}
 use Rattle.codec.specs.inside.EnvelopeParts.{sizedLength}
 use Rattle.row.proofs.PartLengths.{number-few}
 use borrow.Author.Needs.{needs}
-use Rattle.sync.proofs.sizes.sized_len.Statement.{statement}
-use Rattle.sync.proofs.sizes.sized_len.Tie as tie
+use Rattle.sync.proofs.chunk.sized_len.Statement.{statement}
+use Rattle.sync.proofs.chunk.sized_len.Tie as tie
 
 varint-len-requires : tie.Need-varint-len-requires
 varint-len-requires c κs = search needs

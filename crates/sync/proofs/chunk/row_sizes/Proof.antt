@@ -1,8 +1,8 @@
 use native.Mathlib.Omega.{arith}
 use Rattle.sync.proofs.SizeLoops.{row-is}
 use borrow.Author.Needs.{needs}
-use Rattle.sync.proofs.sizes.row_sizes.Statement.{statement}
-use Rattle.sync.proofs.sizes.row_sizes.Tie as tie
+use Rattle.sync.proofs.chunk.row_sizes.Statement.{statement}
+use Rattle.sync.proofs.chunk.row_sizes.Tie as tie
 
 read-slot-requires : tie.Need-read-slot-requires
 read-slot-requires c κs = search needs
