@@ -1,4 +1,6 @@
 // A batch: its bytes read and its rows validated in one pass. From src/merge.rs.
+#![tactic(auto)]
+
 mod limits; // the tests 5 to 12 of one row
 pub mod raw; // the rows of a batch
 pub mod settings; // the closing list
@@ -7,7 +9,7 @@ use clock::vector::Outcome;
 use row::Reading;
 
 // Settings of a batch call.
-#[derive(Drop)]
+#[derive(Clone, Copy)]
 pub struct MergeLimits {
     // Largest number of rows held.
     pub max_pending: u64,
@@ -27,7 +29,7 @@ pub struct MergeLimits {
 
 // How reading a batch ended: where its first row stands, or the refusal. How many rows it has and what 5 to 12 come
 // to; where the reading is refused no rows, and nothing refused by 5 to 12.
-#[derive(Drop)]
+#[derive(Clone, Copy)]
 pub struct BatchRead {
     pub reading: Reading,
     pub rows: usize,

@@ -13,7 +13,7 @@ use stubs::ActorId;
 pub const DEFAULT_MAX_DRIFT_MS: u64 = 60000;
 
 // Every stamp that it issues is greater than the last, and than every stamp that it took in.
-#[derive(Drop)]
+#[derive(Clone, Copy)]
 pub struct HybridClock {
     pub actor: ActorId,
     pub last_wall: u64,
@@ -22,7 +22,7 @@ pub struct HybridClock {
 }
 
 // A new stamp with the clock moved on, or the refusal with the clock as it was.
-#[derive(Drop)]
+#[derive(Clone, Copy)]
 pub enum Issued {
     Stamp {
         stamp: Timestamp,
@@ -35,7 +35,7 @@ pub enum Issued {
 }
 
 // The clock moved on, or the refusal with the clock as it was.
-#[derive(Drop)]
+#[derive(Clone, Copy)]
 pub enum Updated {
     Clock(HybridClock),
     Refused {

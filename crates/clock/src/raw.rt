@@ -13,14 +13,14 @@ use error::Refusal;
 use stubs::ActorId;
 
 // Where an author stands in a rising column of authors, or where it is to be put.
-#[derive(Drop)]
+#[derive(Clone, Copy)]
 enum Place {
     Here(usize),
     Gap(usize),
 }
 
 // How many places of a clock are used once an author was observed, or that it is an author too many.
-#[derive(Drop)]
+#[derive(Clone, Copy)]
 pub enum Room {
     Count(usize),
     Full,

@@ -5,7 +5,7 @@ ghost use Rattle.clock.specs.Order.{stamp_less, stamp_order};
 use stubs::ActorId;
 
 // A stamp of a hybrid clock.
-#[derive(Drop)]
+#[derive(Clone, Copy)]
 pub struct Timestamp {
     // Physical time in milliseconds.
     pub wall_time: u64,
@@ -16,7 +16,7 @@ pub struct Timestamp {
 }
 
 // How two stamps stand to each other.
-#[derive(Drop)]
+#[derive(Clone, Copy)]
 pub enum Ordering {
     Less,
     Equal,

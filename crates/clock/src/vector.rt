@@ -8,7 +8,7 @@ use error::Refusal;
 use stubs::ActorId;
 
 // Authors and their numbers, of which `count` are used: authors strictly rise, unused places are zero.
-#[derive(Drop)]
+#[derive(Clone, Copy)]
 pub struct VectorClock {
     pub authors: [u64; 32],
     pub numbers: [u64; 32],
@@ -16,7 +16,7 @@ pub struct VectorClock {
 }
 
 // Causal relation of two clocks.
-#[derive(Drop)]
+#[derive(Clone, Copy)]
 pub enum CausalOrder {
     Before,
     After,
@@ -25,40 +25,40 @@ pub enum CausalOrder {
 }
 
 // Whether a call was carried out.
-#[derive(Drop)]
+#[derive(Clone, Copy)]
 pub enum Outcome {
     Done,
     Refused(Refusal),
 }
 
-#[derive(Drop)]
+#[derive(Clone, Copy)]
 pub enum NumberAnswer {
     Number(u64),
     Refused(Refusal),
 }
 
 // Whether a clock covers another.
-#[derive(Drop)]
+#[derive(Clone, Copy)]
 pub enum CoverAnswer {
     Covers,
     Lacks,
     Refused(Refusal),
 }
 
-#[derive(Drop)]
+#[derive(Clone, Copy)]
 pub enum OrderAnswer {
     Order(CausalOrder),
     Refused(Refusal),
 }
 
 // The clock afterwards, as it was where the call is refused.
-#[derive(Drop)]
+#[derive(Clone, Copy)]
 pub struct Changed {
     pub outcome: Outcome,
     pub clock: VectorClock,
 }
 
-#[derive(Drop)]
+#[derive(Clone, Copy)]
 pub struct Incremented {
     pub answer: NumberAnswer,
     pub clock: VectorClock,

@@ -1,4 +1,6 @@
 // From src/codec.rs and the Envelope of src/sync.rs: varints, and what a reader and a writer do at a position of a slice.
+#![tactic(auto)]
+
 pub mod raw;
 pub mod reader; // a reader that refers to the bytes
 
@@ -20,14 +22,14 @@ pub const MAX_FRAME: u64 = 16777216;
 pub const MAX_SIGNATURE: u64 = 1024;
 
 // A number that was read and the position past it, or the refusal.
-#[derive(Drop)]
+#[derive(Clone, Copy)]
 pub enum NumberRead {
     Value { value: u64, next: usize },
     Refused(Refusal),
 }
 
 // A part of the slice that was read: where it starts, how long it is, and the position past it.
-#[derive(Drop)]
+#[derive(Clone, Copy)]
 pub enum PartRead {
     Part {
         start: usize,
@@ -38,21 +40,21 @@ pub enum PartRead {
 }
 
 // Whether a reading may end.
-#[derive(Drop)]
+#[derive(Clone, Copy)]
 pub enum Finished {
     Done,
     Refused(Refusal),
 }
 
 // The position past what was written, or the refusal.
-#[derive(Drop)]
+#[derive(Clone, Copy)]
 pub enum Written {
     Next(usize),
     Refused(Refusal),
 }
 
 // The sender of an envelope, and where its body and its signature stand.
-#[derive(Drop)]
+#[derive(Clone, Copy)]
 pub enum EnvelopeRead {
     Envelope {
         sender: ActorId,

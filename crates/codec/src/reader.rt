@@ -8,14 +8,14 @@ ghost use Rattle.codec.specs.Readers.{read_by, moved, ReadsBytes};
 use crate::{EnvelopeRead, Finished, MAX_FRAME, MAX_SIGNATURE, NumberRead, PartRead, raw};
 
 // The bytes, and the position of the next one.
-#[derive(Drop)]
+#[derive(Clone, Copy)]
 pub struct Reader<'a> {
     pub buf: &'a [u8],
     pub pos: usize,
 }
 
 // A part of the bytes and how it was read; the empty part at their start where that is refused.
-#[derive(Drop)]
+#[derive(Clone, Copy)]
 pub struct BytesRead<'a> {
     pub bytes: &'a [u8],
     pub read: PartRead,

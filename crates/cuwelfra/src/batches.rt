@@ -15,7 +15,7 @@ use merge::Joined;
 
 // The counts of an accepted batch, or the refusal; and the hybrid clock.
 #[repr(C)]
-#[derive(Drop)]
+#[derive(Clone, Copy)]
 pub struct DeltaTold {
     pub told: Told,
     pub applied: u64,

@@ -13,7 +13,7 @@ use error::Told;
 use stubs::ActorId;
 
 #[repr(C)]
-#[derive(Drop)]
+#[derive(Clone, Copy)]
 pub struct NumberTold {
     pub told: Told,
     pub value: u64,
@@ -21,7 +21,7 @@ pub struct NumberTold {
 }
 
 #[repr(C)]
-#[derive(Drop)]
+#[derive(Clone, Copy)]
 pub struct PartTold {
     pub told: Told,
     pub start: u64,
@@ -30,14 +30,14 @@ pub struct PartTold {
 }
 
 #[repr(C)]
-#[derive(Drop)]
+#[derive(Clone, Copy)]
 pub struct WrittenTold {
     pub told: Told,
     pub next: u64,
 }
 
 #[repr(C)]
-#[derive(Drop)]
+#[derive(Clone, Copy)]
 pub struct EnvelopeTold {
     pub told: Told,
     pub sender: u64,

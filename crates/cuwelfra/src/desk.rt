@@ -16,7 +16,7 @@ use stubs::ActorId;
 
 // A prepared row, or the refusal with zeros, but for the hybrid clock.
 #[repr(C)]
-#[derive(Drop)]
+#[derive(Clone, Copy)]
 pub struct PreparedTold {
     pub told: Told,
     pub wall_time: u64,

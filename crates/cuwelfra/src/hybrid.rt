@@ -10,7 +10,7 @@ use error::Told;
 use stubs::ActorId;
 
 #[repr(C)]
-#[derive(Drop)]
+#[derive(Clone, Copy)]
 pub struct HybridTold {
     pub actor: u64,
     pub last_wall: u64,
@@ -19,7 +19,7 @@ pub struct HybridTold {
 }
 
 #[repr(C)]
-#[derive(Drop)]
+#[derive(Clone, Copy)]
 pub struct IssuedTold {
     pub told: Told,
     pub wall_time: u64,
@@ -30,7 +30,7 @@ pub struct IssuedTold {
 }
 
 #[repr(C)]
-#[derive(Drop)]
+#[derive(Clone, Copy)]
 pub struct UpdatedTold {
     pub told: Told,
     pub last_wall: u64,

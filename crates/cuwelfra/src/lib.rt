@@ -1,4 +1,6 @@
 // The static library: every public call as a C function over numbers and byte slices. A slice is a pointer and a length.
+#![tactic(auto)]
+
 pub mod abi; // the number of this interface
 pub mod batches; // the batch call and the floor
 pub mod bytes; // varints, readers, writers, envelopes

@@ -12,7 +12,7 @@ use message::{FrameRead, Kind, MessageRead};
 
 // Which message was read: its tag, and the rows of a Delta or the nonce of Ping and Pong.
 #[repr(C)]
-#[derive(Drop)]
+#[derive(Clone, Copy)]
 pub struct MessageTold {
     pub told: Told,
     pub tag: u64,
@@ -21,7 +21,7 @@ pub struct MessageTold {
 
 // The same with the sender of the frame, and where its body and its signature stand.
 #[repr(C)]
-#[derive(Drop)]
+#[derive(Clone, Copy)]
 pub struct FrameTold {
     pub told: Told,
     pub sender: u64,

@@ -11,7 +11,7 @@ use error::Told;
 use row::{Reading, RowRead};
 
 #[repr(C)]
-#[derive(Drop)]
+#[derive(Clone, Copy)]
 pub struct OpTold {
     pub told: Told,
     pub next: u64,

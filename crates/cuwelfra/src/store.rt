@@ -17,7 +17,7 @@ use log::{ClockAnswer, Place, StampAnswer};
 use stubs::ActorId;
 
 #[repr(C)]
-#[derive(Drop)]
+#[derive(Clone, Copy)]
 pub struct StampTold {
     pub told: Told,
     pub present: u64,
@@ -170,7 +170,7 @@ pub extern "C" fn cuwelfra_derive_clock(
 }
 
 #[repr(C)]
-#[derive(Drop)]
+#[derive(Clone, Copy)]
 pub struct LookupTold {
     pub told: Told,
     pub place: u64,

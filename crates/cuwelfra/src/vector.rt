@@ -13,7 +13,7 @@ use error::{Refusal, Told};
 use stubs::ActorId;
 
 #[repr(C)]
-#[derive(Drop)]
+#[derive(Clone, Copy)]
 pub struct ClockTold {
     pub told: Told,
     pub number: u64,

@@ -1,4 +1,6 @@
 // From src/engine.rs: `Replica::local_op` as two calls, so that the server can sign in between.
+#![tactic(auto)]
+
 pub mod preparing; // a row with its stamp, sequence and causes, and the bytes to sign
 pub mod sealing; // the signed row into the log
 
@@ -8,7 +10,7 @@ use row::StampedOperation;
 
 // A prepared row, its payload lying in the payload that was lent, and how many bytes are to be signed; both are zero in a
 // refusal. The hybrid clock is moved on, in a refusal as it was handed in.
-#[derive(Drop)]
+#[derive(Clone, Copy)]
 pub struct Prepared {
     pub outcome: Outcome,
     pub op: StampedOperation,

@@ -1,11 +1,13 @@
 // From src/error.rs: every refusal of documents 01 and 02, with the values that it carries.
+#![tactic(auto)]
+
 ghost use Rattle.std.specs.Prelude.{◌≡◌};
 ghost use Rattle.error.specs.Numbers.{told_of};
 
 use stubs::ActorId;
 
 // One variant for each numbered refusal. The comment gives number and word.
-#[derive(Drop)]
+#[derive(Clone, Copy)]
 pub enum Refusal {
     // 1 unsound store
     UnsoundStore,
@@ -194,7 +196,7 @@ pub fn second(r: Refusal) -> u64
 
 // A refusal as numbers, for an exported call.
 #[repr(C)]
-#[derive(Drop)]
+#[derive(Clone, Copy)]
 pub struct Told {
     pub number: u64,
     pub first: u64,

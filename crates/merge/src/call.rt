@@ -16,7 +16,7 @@ use error::Refusal;
 use words::raw::put_word;
 
 // The report of a batch that was merged, or the refusal.
-#[derive(Drop)]
+#[derive(Clone, Copy)]
 pub(crate) enum Applied {
     Report(MergeReport),
     Refused(Refusal),

@@ -19,14 +19,14 @@ use working::Admitting;
 use working::raw::{admit_all, drain, unexpired};
 
 // A batch that was read and validated: how many rows it has, and how many rows are held.
-#[derive(Drop)]
+#[derive(Clone, Copy)]
 pub(crate) enum Prepared {
     Ready { rows: usize, held: usize },
     Refused(Refusal),
 }
 
 // What became of the rows: how many wait and were logged, expired, were duplicates and were dropped, and how many authors the clock has then.
-#[derive(Drop)]
+#[derive(Clone, Copy)]
 pub(crate) enum Settled {
     Rows {
         waiting: usize,
@@ -40,7 +40,7 @@ pub(crate) enum Settled {
 }
 
 // The decision: the counts that an accepted batch has, with references to its rows in scratch.
-#[derive(Drop)]
+#[derive(Clone, Copy)]
 pub(crate) enum Decision {
     Accepted {
         waiting: usize,

@@ -16,7 +16,7 @@ use codec::reader::get_varint;
 use stubs::ActorId;
 
 // The clock after the folds, and how many of them failed.
-#[derive(Drop)]
+#[derive(Clone, Copy)]
 pub(crate) struct Folded {
     pub clock: HybridClock,
     pub failed: u64,

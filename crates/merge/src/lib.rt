@@ -1,4 +1,6 @@
 // From src/merge.rs and src/engine.rs: the batch call, which folds the stamps into the hybrid clock too, and the floor.
+#![tactic(auto)]
+
 mod deciding; // what a batch comes to; no area but scratch is written
 mod call; // a batch merged
 mod folding; // its stamps folded into the hybrid clock
@@ -9,7 +11,7 @@ use clock::hybrid::HybridClock;
 use error::Refusal;
 
 // Counts from one accepted batch.
-#[derive(Drop)]
+#[derive(Clone, Copy)]
 pub struct MergeReport {
     // Rows logged whose outcome was 0.
     pub applied: u64,
@@ -28,7 +30,7 @@ pub struct MergeReport {
 }
 
 // The report, how many stamps could not be folded, and the clock moved on; or the refusal with the clock as it was.
-#[derive(Drop)]
+#[derive(Clone, Copy)]
 pub enum Joined {
     Report {
         report: MergeReport,

@@ -1,4 +1,6 @@
 // From src/codec.rs and src/sync.rs: the handshake and delta messages as BinaryCodec writes and reads them.
+#![tactic(auto)]
+
 pub mod reader; // messages from bytes
 pub mod writer; // messages to bytes
 
@@ -6,7 +8,7 @@ use error::Refusal;
 use stubs::ActorId;
 
 // Which message was read. A clock or rows stand in the lent areas: of a Delta here is their number, of Ping and Pong the nonce.
-#[derive(Drop)]
+#[derive(Clone, Copy)]
 pub enum Kind {
     Hello,
     Delta(usize),
@@ -15,14 +17,14 @@ pub enum Kind {
     Pong(u64),
 }
 
-#[derive(Drop)]
+#[derive(Clone, Copy)]
 pub enum MessageRead {
     Message(Kind),
     Refused(Refusal),
 }
 
 // The sender of a frame, where its body and its signature stand, and its message.
-#[derive(Drop)]
+#[derive(Clone, Copy)]
 pub enum FrameRead {
     Frame {
         sender: ActorId,

@@ -1,4 +1,6 @@
 // From src/peer.rs: what is known of one peer.
+#![tactic(auto)]
+
 pub mod inplace; // pings and pongs in a record that is lent
 mod nonces; // lists of nonces
 mod pending; // rows that a peer lacks
@@ -17,7 +19,7 @@ use log::check::check_store;
 use stubs::ActorId;
 
 // Connection status of a peer.
-#[derive(Drop)]
+#[derive(Clone, Copy)]
 pub enum PeerState {
     Connecting,
     Syncing,
@@ -26,14 +28,14 @@ pub enum PeerState {
 }
 
 // Nonces of pings, of which `count` are used, the oldest first.
-#[derive(Drop)]
+#[derive(Clone, Copy)]
 pub struct Pings {
     pub nonces: [u64; 8],
     pub count: usize,
 }
 
 // The record of a peer.
-#[derive(Drop)]
+#[derive(Clone, Copy)]
 pub struct Peer {
     pub id: ActorId,
     pub state: PeerState,
@@ -46,7 +48,7 @@ pub struct Peer {
 }
 
 // The record afterwards, as it was where the call is refused.
-#[derive(Drop)]
+#[derive(Clone, Copy)]
 pub struct PeerAnswer {
     pub outcome: Outcome,
     pub peer: Peer,

@@ -11,7 +11,7 @@ use row::reader::{HeadRead, read_head};
 use words::raw::get_word;
 
 // The lowest author above the limit, if there is one.
-#[derive(Drop)]
+#[derive(Clone, Copy)]
 pub(crate) enum Over {
     Nobody,
     Author(u64),

@@ -1,5 +1,7 @@
 // Replays a recorded sample of the original's answers on the proved library, and says whether each came out as recorded.
 // docs/DIFFERENCES.md has the sample's format, under "How the sample was made".
+#![tactic(auto)]
+
 use batch::MergeLimits;
 use clock::hybrid::{HybridClock, Issued};
 use clock::stamp::Timestamp;
@@ -18,7 +20,7 @@ use words::raw::{copy, get_word};
 const UNTOUCHED: u8 = 165;
 
 // What a record came to: as recorded, not a record of the sample's format, or what differs first.
-#[derive(Drop)]
+#[derive(Clone, Copy)]
 enum Verdict {
     Same,
     Unreadable,
@@ -35,7 +37,7 @@ enum Verdict {
 }
 
 // How many records of each kind came out as recorded, and how many stamps could not be folded.
-#[derive(Drop)]
+#[derive(Clone, Copy)]
 struct Tally {
     stores: u64,
     floors: u64,

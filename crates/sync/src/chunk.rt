@@ -34,7 +34,7 @@ pub(crate) fn sized_len(n: u64) -> u64
 }
 
 // What a row adds to a chunk: its size (signed bytes, signature, and 16 for framing), and the bytes that it has in a Delta.
-#[derive(Drop)]
+#[derive(Clone, Copy)]
 pub(crate) struct RowSize {
     pub size: u64,
     pub bytes: u64,

@@ -1,4 +1,6 @@
 // From src/sync.rs: what a peer is missing, in which chunks it goes out, and how much they send.
+#![tactic(auto)]
+
 mod chunk; // the delta in chunks
 mod scan; // the rows that a peer has not seen
 mod sizes; // the rows and the bytes of each chunk

@@ -1,5 +1,7 @@
 // Runs published examples of LEB128 through the codec and compares: DWARF 5, section 7.6, and the cases of document 01.
 // One line for each case, then how many came out as published.
+#![tactic(auto)]
+
 use codec::{NumberRead, Written};
 
 // How many cases there are.

@@ -1,4 +1,6 @@
 // Lent areas: big-endian words, and blocks of bytes that are cleared, copied and moved in place.
+#![tactic(auto)]
+
 pub mod raw;
 
 ghost use Rattle.std.specs.Prelude.{◌≡◌, length, replicate};

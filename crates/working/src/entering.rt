@@ -20,7 +20,7 @@ use stubs::ActorId;
 use words::raw::get_word;
 
 // What became of a row.
-#[derive(Drop)]
+#[derive(Clone, Copy)]
 pub(crate) enum Admit {
     Duplicate,
     Conflict { actor: ActorId, seq: u64 },

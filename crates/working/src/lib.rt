@@ -1,4 +1,6 @@
 // The merger's working rows, as references in the scratch area: expiry, admission, draining.
+#![tactic(auto)]
+
 mod contents; // whether two rows agree
 mod entering; // one row of the batch into the working rows
 mod keys; // the keys of the working rows
@@ -10,14 +12,14 @@ pub mod raw; // the three steps
 use error::Refusal;
 
 // How admission ended: how many working rows there are and how many rows were duplicates, or the conflict.
-#[derive(Drop)]
+#[derive(Clone, Copy)]
 pub enum Admitting {
     Entered { working: usize, duplicates: usize },
     Refused(Refusal),
 }
 
 // How draining ended: how many rows wait on, were logged, were dropped, and how many authors the clock has then.
-#[derive(Drop)]
+#[derive(Clone, Copy)]
 pub struct Draining {
     pub waiting: usize,
     pub logged: usize,

@@ -20,7 +20,7 @@ use stubs::ActorId;
 use words::raw::get_word;
 
 // What rows are known and ordered by.
-#[derive(Drop)]
+#[derive(Clone, Copy)]
 pub(crate) struct Key {
     pub stamp: Timestamp,
     pub actor: ActorId,
@@ -28,7 +28,7 @@ pub(crate) struct Key {
 }
 
 // The first of the working references that a test holds of.
-#[derive(Drop)]
+#[derive(Clone, Copy)]
 pub(crate) enum Found {
     At(usize),
     Nothing,

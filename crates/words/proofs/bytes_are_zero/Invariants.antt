@@ -1,0 +1,14 @@
+use borrow.Author.Rules.{rules}
+use Prim.Native.Nat.{◌+◌, ◌-◌}
+use native.Mathlib.Omega.{arith}
+use lib.ListN.{length}
+use Rattle.words.specs.Choice.Tells.{is_true, is_false}
+use Rattle.words.proofs.Words.{in_join, in_none, in_one, zero_in, zero_all}
+use Rattle.words.specs.Inside.Moves.{ZeroIn}
+use Rattle.words.proofs.bytes_are_zero.Given as goal
+
+abbrev pub invariant-loop-i : goal.invariant-loop-i
+invariant-loop-i l = ZeroIn l.s 0 l.i
+
+abbrev pub decreases-loop-i : goal.decreases-loop-i
+decreases-loop-i l = length l.s - l.i

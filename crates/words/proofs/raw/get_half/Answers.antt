@@ -1,0 +1,9 @@
+use borrow.Author.Rules.{rules}
+use native.Mathlib.Omega.{arith}
+use Rattle.words.proofs.raw.wide.Reads as wide_reads
+use Rattle.words.specs.Inside.Moves.{get32}
+use Rattle.words.proofs.raw.get_half.Goals as goal
+
+pub returns : goal.returns
+unfolding get32
+returns c = (omega arith, omega arith)

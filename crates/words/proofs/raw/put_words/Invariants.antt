@@ -1,0 +1,17 @@
+use borrow.Author.Rules.{rules}
+use Prim.Native.Nat.{ℕ, ◌≤◌, ◌<◌, ◌-◌}
+use mathlib.Core.Path.{◌≡◌}
+use mathlib.Core.List.{[]}
+use native.Mathlib.Omega.{arith}
+use lib.ListN.{length, take}
+use Rattle.words.specs.Be.{bes}
+use Rattle.words.specs.Areas.{put_at}
+use Rattle.words.proofs.Puts.{words_none, words_turn, words_done}
+use Rattle.words.proofs.raw.put_word.Reads as put_word_reads
+use Rattle.words.proofs.raw.put_words.Given as goal
+
+abbrev pub invariant-loop-i : goal.invariant-loop-i
+invariant-loop-i l = (l.i ≤ length l.ws) × (length l.s ≡ length l.initial.s) × (l.s ≡ put_at l.initial.s l.at (bes (take l.i l.ws)))
+
+abbrev pub decreases-loop-i : goal.decreases-loop-i
+decreases-loop-i l = length l.ws - l.i
