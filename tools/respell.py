@@ -15,8 +15,8 @@ import sys
 
 ROOT = os.path.dirname(os.path.dirname(os.path.realpath(__file__)))
 TABLE = os.path.join(ROOT, "tools", "respell.tsv")
-NAME = re.compile(r"[^\W\d_][\w'\-·]*")
-DECLARED = re.compile(r"^(?:  )?(?:unfoldable |abbrev |pub |record |data |ruleset )*([^\W\d_][\w'\-·]*(?: [^\W\d_][\w'\-·]*)*) :", re.M)
+NAME = re.compile(r"(?<!\d)[^\W\d_][\w'\-·]*")
+DECLARED = re.compile(r"^ *(?:unfoldable |abbrev |pub |record |data |ruleset )*([^\W\d_][\w'\-·]*(?: [^\W\d_][\w'\-·]*)*) :", re.M)
 # Folders of specs/ and proofs/ that are modules of their own; the other folders of proofs/ have the names of files of src/.
 MODULES = [(r"\w+", "specs", "inside"), ("log", "proofs", "calls"), ("log", "proofs", "logging"), ("log", "proofs", "store"), ("log", "proofs", "tables")]
 # Lemmas that had their function's name but for the hyphen, in the library of proofs that declares them.

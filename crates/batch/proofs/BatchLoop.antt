@@ -95,18 +95,18 @@ module _ {s : List ℕ} {first rows : ℕ} {l : Limits} {time : ℕ} {valid : An
     unfolding read_rows behind
     stopped e = g.same ∙ rw one (rw e)
 
-    next-same : (b : BatchRow) (next : ℕ) → read_row s at ≡ got b next
+    next_same : (b : BatchRow) (next : ℕ) → read_row s at ≡ got b next
         → read_rows s first rows ≡ behind (g.so_far ++ (b ∷ [])) (read_rows s next (rows - (i + 1)))
     unfolding read_rows
-    next-same b next e = g.same ∙ rw (one, e) (behind_one g.so_far b (read_rows s next (rows - (i + 1))))
+    next_same b next e = g.same ∙ rw (one, e) (behind_one g.so_far b (read_rows s next (rows - (i + 1))))
 
     module _ {r : RowRead} (d : ReadsRow s at r) where
-      pub row-stops : {k : Refusal} → r.reading ≡ Refused k → whole s (read_rows s first rows) ≡ refused k
-      row-stops e = rw (stopped (row_is d e))
+      pub row_stops : {k : Refusal} → r.reading ≡ Refused k → whole s (read_rows s first rows) ≡ refused k
+      row_stops e = rw (stopped (row_is d e))
 
-      pub counting-turn : {next : ℕ} {valid' : Answer Unit} → r.reading ≡ Read next → GoesOn valid l time r.op r.verdict valid'
+      pub counting_turn : {next : ℕ} {valid' : Answer Unit} → r.reading ≡ Read next → GoesOn valid l time r.op r.verdict valid'
           → Counting s first rows l time valid' next (i + 1)
-      counting-turn {next} {valid'} e w =
+      counting_turn {next} {valid'} e w =
           let b : BatchRow = record { row = row_of s r.op; closing = record { verdict = r.verdict; outcome = r.outcome; detail = r.detail } } in
           let q : read_row s at ≡ got b next = row_is d e in
           record {
@@ -114,7 +114,7 @@ module _ {s : List ℕ} {first rows : ℕ} {l : Limits} {time : ℕ} {valid : An
             turn = omega arith;
             few = g.few;
             counted = length-append g.so_far (b ∷ []) ∙ omega (arith, g.counted);
-            same = next-same b next q;
+            same = next_same b next q;
             valid_is = w.is s b.closing (d.fits next e) refl ∙ ap (λ (a : Answer Unit). and_then a (λ u. validate l time b)) g.valid_is ∙ validate_snoc l time g.so_far b;
           }
 
@@ -135,18 +135,18 @@ module _ (s : List ℕ) (l : Limits) (time : ℕ) where
   no_count e h = batch_refused h (rw e)
 
   module _ {n first : ℕ} (e : number s 0 ≡ got n first) where
-    pub over-count : {r : BatchRead} → 64 < n → r ≡ no_batch OverCapacity → ReadsBatch s l time r
+    pub over_count : {r : BatchRead} → 64 < n → r ≡ no_batch OverCapacity → ReadsBatch s l time r
     unfolding read_batch
-    over-count m h = batch_refused h (rw (e, lt-leb n 64 m))
+    over_count m h = batch_refused h (rw (e, lt-leb n 64 m))
 
     module _ (m : n ≤ 64) where
-      batch-is : read_batch s ≡ whole s (read_rows s first n)
+      batch_is : read_batch s ≡ whole s (read_rows s first n)
       unfolding read_batch
-      batch-is = rw (e, le-leb n 64 m)
+      batch_is = rw (e, le-leb n 64 m)
 
       by_rows : (r : BatchRead) (x : Reading) → RowsBy x s first n l time r → BatchBy x s l time r
-      by_rows r (Read from) (f, k, b) = (rw (f, k) b, rw (f, k) batch-is)
-      by_rows r (Refused k) (h, e) = (batch-is ∙ h, e)
+      by_rows r (Read from) (f, k, b) = (rw (f, k) b, rw (f, k) batch_is)
+      by_rows r (Refused k) (h, e) = (batch_is ∙ h, e)
 
-      pub batch-by-rows : {r : BatchRead} → ReadsRows s first n l time r → ReadsBatch s l time r
-      batch-by-rows {r} d = record { is = by_rows r r.reading d.is }
+      pub batch_by_rows : {r : BatchRead} → ReadsRows s first n l time r → ReadsBatch s l time r
+      batch_by_rows {r} d = record { is = by_rows r r.reading d.is }

@@ -27,9 +27,9 @@ module _ (l : Limits) where
   many_held h = rw (lt-leb l.max_pending 64 h)
 
   module _ (h : l.max_pending ≤ 64) where
-    pub many-deps : 16 < l.max_deps → false ≡ limits_ok l
+    pub many_deps : 16 < l.max_deps → false ≡ limits_ok l
     unfolding limits_ok
-    many-deps k = rw (le-leb l.max_pending 64 h, lt-leb l.max_deps 16 k)
+    many_deps k = rw (le-leb l.max_pending 64 h, lt-leb l.max_deps 16 k)
 
     pub by_payload : l.max_deps ≤ 16 → leb l.max_payload 256 ≡ limits_ok l
     unfolding limits_ok
@@ -72,9 +72,9 @@ module _ (author seq : ℕ) (ds : List (ℕ × ℕ)) (i a n : ℕ) (e : drop i d
     unfolding own_future
     own_below k inv = inv ∙ rw (e, eq-eqb a author h, lt-leb seq n k)
 
-    pub own-found : seq ≤ n → LeftOwn author seq ds i → true ≡ own_future author seq ds
+    pub own_found : seq ≤ n → LeftOwn author seq ds i → true ≡ own_future author seq ds
     unfolding own_future
-    own-found k inv = sym (inv ∙ rw (e, eq-eqb a author h, le-leb seq n k))
+    own_found k inv = sym (inv ∙ rw (e, eq-eqb a author h, le-leb seq n k))
 
 pub own_none : (author seq : ℕ) (ds : List (ℕ × ℕ)) (i n : ℕ) → length ds ≡ n → n ≤ i → LeftOwn author seq ds i → false ≡ own_future author seq ds
 unfolding own_future
@@ -130,9 +130,9 @@ module _ (l : Limits) (time : ℕ) (op : StampedOperation) (verdict : ℕ) where
             own_future_lem h = record { is = λ src c f e. rw (p5, p6, p7, payload_length src op f, p8, ld, p9, ← eo, h) }
 
             module _ (h10 : own ≡ false) {latest : ℕ} (es : latest ≡ saturating time l.max_drift) where
-              pub ahead-of-time : latest < op.timestamp.wall_time → Validates l time op verdict (refused (AheadOfTime op.actor op.seq))
+              pub ahead_of_time : latest < op.timestamp.wall_time → Validates l time op verdict (refused (AheadOfTime op.actor op.seq))
               unfolding validate row_of
-              ahead-of-time h = record {
+              ahead_of_time h = record {
                 is = λ src c f e. rw (p5, p6, p7, payload_length src op f, p8, ld, p9, ← eo, h10, ← es, lt-leb op.timestamp.wall_time latest h);
               }
 

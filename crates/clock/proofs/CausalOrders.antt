@@ -63,18 +63,18 @@ module _ (c d : VectorClock) where
     rd : Rises 0 (entries d)
     rd = rises_of 0 (entries d) (sound_rising d sd)
 
-    pub compare-told : (o : CausalOrder) → o ≡ order_of (dominates (entries c) (entries d)) (dominates (entries d) (entries c)) → Compares c d (order.Order o)
+    pub compare_told : (o : CausalOrder) → o ≡ order_of (dominates (entries c) (entries d)) (dominates (entries d) (entries c)) → Compares c d (order.Order o)
     unfolding compare_call
-    compare-told o e = record {
+    compare_told o e = record {
       answer = rw (sc, sd, e);
       order = λ p q.
           let k : p ≡ order_of (dominates (entries c) (entries d)) (dominates (entries d) (entries c)) = cc in
           rw k (ordered (entries c) (entries d) rc rd _ _ refl refl);
     }
 
-    pub merge-told : (r : Changed) → changed_of r ≡ grown c (merge (entries c) (entries d)) nothing → Merges c d r
+    pub merge_told : (r : Changed) → changed_of r ≡ grown c (merge (entries c) (entries d)) nothing → Merges c d r
     unfolding merge_call
-    merge-told r e = record {
+    merge_told r e = record {
       ended = rw (sc, sd) e;
       join = λ t.
           let k : r.clock ≡ clock_of (merge (entries c) (entries d)) = (grown_done c (merge (entries c) (entries d)) (changed_of r) e t).1 in

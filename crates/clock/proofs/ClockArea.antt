@@ -85,9 +85,9 @@ module _ (c : VectorClock) (la : length c.authors ≡ 32) (ln : length c.numbers
     second : List ℕ
     second = be64 (get_or c.numbers i 0)
 
-    entry-bytes-next : entry_bytes c (i + 1) ≡ (entry_bytes c i ++ first) ++ second
+    entry_bytes_next : entry_bytes c (i + 1) ≡ (entry_bytes c i ++ first) ++ second
     unfolding entry_bytes first second
-    entry-bytes-next =
+    entry_bytes_next =
         rw (
           add-one i,
           take-suc c.authors i 0 (omega arith),
@@ -97,18 +97,18 @@ module _ (c : VectorClock) (la : length c.authors ≡ 32) (ln : length c.numbers
           bes_two (get_or c.authors i 0) (get_or c.numbers i 0),
         ) (simp append_assoc)
 
-    pub store-turn : (s₀ s t u : List ℕ) (at : ℕ) → at + 520 ≤ length s₀ → s ≡ put_at s₀ (at + 8) (entry_bytes c i)
+    pub store_turn : (s₀ s t u : List ℕ) (at : ℕ) → at + 520 ≤ length s₀ → s ≡ put_at s₀ (at + 8) (entry_bytes c i)
         → t ≡ put_at s (at + 16 * i + 8) (be64 (get_or c.authors i 0)) → u ≡ put_at t (at + 16 * i + 16) (be64 (get_or c.numbers i 0))
         → u ≡ put_at s₀ (at + 8) (entry_bytes c (i + 1))
     unfolding first second
-    store-turn s₀ s t u at r p q o =
+    store_turn s₀ s t u at r p q o =
         let lr : length (entry_bytes c i) ≡ 16 * i = length_entry_bytes i (omega arith) in
         let lf : length first ≡ 8 = length_be (get_or c.authors i 0) in
         let ls : length second ≡ 8 = length_be (get_or c.numbers i 0) in
         let lz : length (entry_bytes c i ++ first) ≡ 16 * i + 8 = length-append (entry_bytes c i) first ∙ omega arith in
         let tt' : t ≡ put_at s₀ (at + 8) (entry_bytes c i ++ first) =
         q ∙ rw p (put_put s₀ (entry_bytes c i) first (at + 8) (at + 16 * i + 8) (omega arith) (omega arith)) in
-        o ∙ rw (tt', entry-bytes-next) (put_put s₀ (entry_bytes c i ++ first) second (at + 8) (at + 16 * i + 16) (omega arith) (omega arith))
+        o ∙ rw (tt', entry_bytes_next) (put_put s₀ (entry_bytes c i ++ first) second (at + 8) (at + 16 * i + 16) (omega arith) (omega arith))
 
   pub store_end : (s t u : List ℕ) (at i : ℕ) → at + 520 ≤ length s → i ≡ 32 → t ≡ put_at s at (be64 c.count) → u ≡ put_at t (at + 8) (entry_bytes c i)
       → u ≡ put_at s at (clock_bytes c)

@@ -22,7 +22,7 @@ use Rattle.clock.specs.Vector.{authors_of, numbers_of, entries, clock_of, sound,
 use Rattle.clock.specs.Inside.Columns.{search, put_in}
 use Rattle.clock.proofs.RisingAuthors.{rises_of, rising_observe}
 use Rattle.clock.proofs.EntryLaws.{observe_enter, merge_longer}
-use Rattle.clock.proofs.ClockEntries.{length_authors, length_numbers, entries_of, sound_of, sound_few, sound_rising, used-authors, used-numbers, count_is, authors_are, numbers-are, clock_is, entry_next}
+use Rattle.clock.proofs.ClockEntries.{length_authors, length_numbers, entries_of, sound_of, sound_few, sound_rising, used_authors, used_numbers, count_is, authors_are, numbers_are, clock_is, entry_next}
 use Rattle.clock.proofs.AuthorSearch.{Found, at_here, at_gap, found_is, ins, in_pad, set_pad}
 
 -- entries that are at most 32, or more
@@ -48,7 +48,7 @@ module _ (c : VectorClock) (s : sound c ≡ true) (la : length c.authors ≡ 32)
   Found_at p = p ≡ search (take c.count c.authors) a
 
   view : (p : Place) → Found_at p → Found a n (entries c) p
-  view p e = found_is a n (entries c) (take c.count c.authors) p (rises_of 0 (entries c) (sound_rising c s)) (used-authors c s la ln) e
+  view p e = found_is a n (entries c) (take c.count c.authors) p (rises_of 0 (entries c) (sound_rising c s)) (used_authors c s la ln) e
 
   here_below' : Found a n (entries c) (Here i) → i < c.count
   here_below' (at_here h g p q) = omega (arith, count_is c s la ln)
@@ -64,7 +64,7 @@ module _ (c : VectorClock) (s : sound c ≡ true) (la : length c.authors ≡ 32)
 
   get_here' : i < c.count → Found a n (entries c) (Here i) → get_or c.numbers i 0 ≡ get (entries c) a
   get_here' k (at_here h g p q) =
-      sym (get_or-take c.count c.numbers i 0 k) ∙ rw (used-numbers c s la ln) (sym g)
+      sym (get_or-take c.count c.numbers i 0 k) ∙ rw (used_numbers c s la ln) (sym g)
 
   pub get_here : Found_at (Here i) → get_or c.numbers i 0 ≡ get (entries c) a
   get_here e = get_here' (here_below e) (view (Here i) e)
@@ -86,7 +86,7 @@ module _ (c : VectorClock) (s : sound c ≡ true) (la : length c.authors ≡ 32)
       sym (length_authors (put (entries c) a n)) ∙ ap length p ∙ length_authors (entries c) in
       let ea : c.authors ≡ pad 32 (authors_of (put (entries c) a n)) = authors_are c s la ln ∙ ap (pad 32) (sym p) in
       let en : set c.numbers i n ≡ pad 32 (numbers_of (put (entries c) a n)) =
-      ap (λ (l : List ℕ). set l i n) (numbers-are c s la ln) ∙ set_pad (numbers_of (entries c)) i n (omega (arith, length_numbers (entries c)))
+      ap (λ (l : List ℕ). set l i n) (numbers_are c s la ln) ∙ set_pad (numbers_of (entries c)) i n (omega (arith, length_numbers (entries c)))
       ∙ ap (pad 32) (sym q) in
       let ec : c.count ≡ length (put (entries c) a n) = ct ∙ sym le in
       (λ j. record { answer = done nothing; left = record { authors = ea j; numbers = en j; count = ec j } })
@@ -126,7 +126,7 @@ module _ (c : VectorClock) (s : sound c ≡ true) (la : length c.authors ≡ 32)
       ek ∙ ap (λ (l : List ℕ). put_in l c.count i a) (authors_are c s la ln)
       ∙ in_pad (authors_of (entries c)) c.count i a lk (omega arith) (omega arith) ∙ ap (pad 32) (sym p) in
       let fn : ns ≡ pad 32 (numbers_of (put (entries c) a n)) =
-      en ∙ ap (λ (l : List ℕ). put_in l c.count i n) (numbers-are c s la ln)
+      en ∙ ap (λ (l : List ℕ). put_in l c.count i n) (numbers_are c s la ln)
       ∙ in_pad (numbers_of (entries c)) c.count i n lm (omega arith) (omega arith) ∙ ap (pad 32) (sym q) in
       let fc : c.count + 1 ≡ length (put (entries c) a n) = omega arith in
       (λ j. record { answer = done nothing; left = record { authors = fa j; numbers = fn j; count = fc j } })
@@ -210,11 +210,11 @@ module _ (c d : VectorClock) (sd : sound d ≡ true) (la : length d.authors ≡ 
     unfolding dominates
     one = inv ∙ rw (entry_next d sd la ln i h, ← g, ← w)
 
-    pub cover-turn : want ≤ have → Covering (i + 1)
-    cover-turn l = one ∙ rw (le-leb want have l)
+    pub cover_turn : want ≤ have → Covering (i + 1)
+    cover_turn l = one ∙ rw (le-leb want have l)
 
-    pub cover-not : have < want → false ≡ dominates (entries c) (entries d)
-    cover-not l = sym (one ∙ rw (lt-leb want have l))
+    pub cover_not : have < want → false ≡ dominates (entries c) (entries d)
+    cover_not l = sym (one ∙ rw (lt-leb want have l))
 
   all_passed : (i : ℕ) → d.count ≤ i → drop i (entries d) ≡ []
   all_passed i h = drop_of_length-le (entries d) {i = i} (omega (arith, count_is d sd la ln))
@@ -251,8 +251,8 @@ module _ (c d e : VectorClock) (sd : sound d ≡ true) (la : length d.authors �
     unfolding merge
     on = inv.left ∙ rw (entry_next d sd la ln i h, ← ea, ← en)
 
-    pub merge-turn : q.answer ≡ done nothing → Merging c d q.left (i + 1)
-    merge-turn t =
+    pub merge_turn : q.answer ≡ done nothing → Merging c d q.left (i + 1)
+    merge_turn t =
         let es : List (ℕ × ℕ) = observe (entries e) a n in
         let f : length (observe (entries e) a n) ≤ 32 = (grown_done e (observe (entries e) a n) q step t).0 in
         let k : q.left ≡ clock_of (observe (entries e) a n) = (grown_done e (observe (entries e) a n) q step t).1 in
@@ -264,8 +264,8 @@ module _ (c d e : VectorClock) (sd : sound d ≡ true) (la : length d.authors �
           left = on ∙ ap (λ (l : List (ℕ × ℕ)). merge l (drop (i + 1) (entries d))) (sym o);
         }
 
-    pub merge-stop : (r : Refusal) → q.answer ≡ refused r → ends (refused AuthorsFull) c ≡ grown c (merge (entries c) (entries d)) nothing
-    merge-stop r t =
+    pub merge_stop : (r : Refusal) → q.answer ≡ refused r → ends (refused AuthorsFull) c ≡ grown c (merge (entries c) (entries d)) nothing
+    merge_stop r t =
         grown_no c (merge (entries c) (entries d)) nothing
         (rw on
         (omega (

@@ -116,16 +116,16 @@ module _ (c : VectorClock) (s : sound c ≡ true) where
     same : length (take c.count c.authors) ≡ length (take c.count c.numbers)
     same = used c.authors la ∙ sym (used c.numbers ln)
 
-    pub used-authors : take c.count c.authors ≡ authors_of (entries c)
+    pub used_authors : take c.count c.authors ≡ authors_of (entries c)
     unfolding entries
-    used-authors = sym (authors_pairs _ _ same)
+    used_authors = sym (authors_pairs _ _ same)
 
-    pub used-numbers : take c.count c.numbers ≡ numbers_of (entries c)
+    pub used_numbers : take c.count c.numbers ≡ numbers_of (entries c)
     unfolding entries
-    used-numbers = sym (numbers_pairs _ _ same)
+    used_numbers = sym (numbers_pairs _ _ same)
 
     pub count_is : c.count ≡ length (entries c)
-    count_is = sym (used c.authors la) ∙ ap length used-authors ∙ length_authors (entries c)
+    count_is = sym (used c.authors la) ∙ ap length used_authors ∙ length_authors (entries c)
 
     padded : (l : List ℕ) → length l ≡ 32 → zeros (drop c.count l) ≡ true → pad 32 (take c.count l) ≡ l
     unfolding pad
@@ -135,14 +135,14 @@ module _ (c : VectorClock) (s : sound c ≡ true) where
         rw (used l h, f) (take-append-drop c.count l)
 
     pub authors_are : c.authors ≡ pad 32 (authors_of (entries c))
-    authors_are = sym (rw used-authors at (padded c.authors la (and_left _ _ tails)))
+    authors_are = sym (rw used_authors at (padded c.authors la (and_left _ _ tails)))
 
-    pub numbers-are : c.numbers ≡ pad 32 (numbers_of (entries c))
-    numbers-are = sym (rw used-numbers at (padded c.numbers ln (and_right (zeros (drop c.count c.authors)) _ tails)))
+    pub numbers_are : c.numbers ≡ pad 32 (numbers_of (entries c))
+    numbers_are = sym (rw used_numbers at (padded c.numbers ln (and_right (zeros (drop c.count c.authors)) _ tails)))
 
     pub clock_is : clock_of (entries c) ≡ c
     unfolding clock_of
-    clock_is = λ i. record { authors = sym authors_are i; numbers = sym numbers-are i; count = sym count_is i }
+    clock_is = λ i. record { authors = sym authors_are i; numbers = sym numbers_are i; count = sym count_is i }
 
     -- one entry on
     pub entry_next : (i : ℕ) → i < c.count → drop i (entries c) ≡ (get_or c.authors i 0, get_or c.numbers i 0) ∷ drop (i + 1) (entries c)

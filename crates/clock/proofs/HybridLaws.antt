@@ -91,10 +91,10 @@ module _ (j : HybridClock) (m : Timestamp) (pt bound : ℕ) (b : bound ≡ satur
     unfolding receive_event receive_l
     received = rw (← w, ← v, ← n)
 
-    pub update-moved : counter < 4294967296 → update_call j m pt ≡ record { answer = done nothing; left = moved_to j (record { l = wall; c = counter }) }
+    pub update_moved : counter < 4294967296 → update_call j m pt ≡ record { answer = done nothing; left = moved_to j (record { l = wall; c = counter }) }
     unfolding update_call receive_at
-    update-moved k = rw (← b, le-leb m.wall_time bound h, received, lt-ltb counter 4294967296 k)
+    update_moved k = rw (← b, le-leb m.wall_time bound h, received, lt-ltb counter 4294967296 k)
 
-    pub update-full : 4294967296 ≤ counter → update_call j m pt ≡ record { answer = refused CounterOverflow; left = j }
+    pub update_full : 4294967296 ≤ counter → update_call j m pt ≡ record { answer = refused CounterOverflow; left = j }
     unfolding update_call receive_at
-    update-full k = rw (← b, le-leb m.wall_time bound h, received, le-ltb counter 4294967296 k)
+    update_full k = rw (← b, le-leb m.wall_time bound h, received, le-ltb counter 4294967296 k)

@@ -19,13 +19,13 @@ module _ (j : HybridClock) (pt : ℕ) where
       now_moved j pt pt 0 (sym (max_right j.last_wall pt h)) (sym (wall_moved (hlc_of j) pt (λ e. omega arith))) (omega arith)
 
   module _ (h : pt ≤ j.last_wall) where
-    pub now-next : j.last_counter < 4294967295 → now_call j pt ≡ stamped_at j (record { l = j.last_wall; c = j.last_counter + 1 })
-    now-next k =
+    pub now_next : j.last_counter < 4294967295 → now_call j pt ≡ stamped_at j (record { l = j.last_wall; c = j.last_counter + 1 })
+    now_next k =
         now_moved j pt j.last_wall (j.last_counter + 1) (sym (max_left j.last_wall pt h)) (sym (wall_stayed (hlc_of j) j.last_wall refl))
         (omega arith)
 
-    pub now-spent : 4294967295 ≤ j.last_counter → now_call j pt ≡ ends (refused CounterOverflow) j
-    now-spent k =
+    pub now_spent : 4294967295 ≤ j.last_counter → now_call j pt ≡ ends (refused CounterOverflow) j
+    now_spent k =
         now_full j pt j.last_wall (j.last_counter + 1) (sym (max_left j.last_wall pt h)) (sym (wall_stayed (hlc_of j) j.last_wall refl))
         (omega arith)
 
@@ -36,7 +36,7 @@ sends_as_rust j pt = elim (test (ltb j.last_wall pt)) [
   | inr e ↦
       let h : pt ≤ j.last_wall = ltb-false _ _ e in
       elim (test (ltb j.last_counter 4294967295)) [
-        | inl f ↦ rw (e, f) (now-next j pt h (ltb-true _ _ f))
-        | inr f ↦ rw (e, f) (now-spent j pt h (ltb-false _ _ f))
+        | inl f ↦ rw (e, f) (now_next j pt h (ltb-true _ _ f))
+        | inr f ↦ rw (e, f) (now_spent j pt h (ltb-false _ _ f))
       ]
 ]

@@ -375,12 +375,12 @@ envelopes_back sender body sig h k l = envelope_back sender body sig h k l
 
 -- Document 01's cases, by running the definitions: 300 is AC 02, 2^64 − 1 is nine FF then 01; 02: "80 00 (hexadecimal) no longer reads as 0".
 pub record Varints : Type 0 where
-  pub three_hundred : shortest 300 ≡ 0x_ac ∷ 0x02 ∷ []
-  pub largest : shortest (2 ^ 64 - 1) ≡ 0x_ff ∷ 0x_ff ∷ 0x_ff ∷ 0x_ff ∷ 0x_ff ∷ 0x_ff ∷ 0x_ff ∷ 0x_ff ∷ 0x_ff ∷ 0x01 ∷ []
+  pub three_hundred : shortest 300 ≡ 0xAC ∷ 0x02 ∷ []
+  pub largest : shortest (2 ^ 64 - 1) ≡ 0xFF ∷ 0xFF ∷ 0xFF ∷ 0xFF ∷ 0xFF ∷ 0xFF ∷ 0xFF ∷ 0xFF ∷ 0xFF ∷ 0x01 ∷ []
   pub overlong_zero : get_varint (0x80 ∷ 0x00 ∷ []) 0 ≡ bad Overlong
   -- one byte, and ten of which the last pads; an eleventh is 23, and so is 2^32 where 32 bits are read, in six bytes too
   pub zero : get_varint (0x00 ∷ []) 0 ≡ got 0 1
-  pub ten_bytes : get_varint (0x_ff ∷ 0x_ff ∷ 0x_ff ∷ 0x_ff ∷ 0x_ff ∷ 0x_ff ∷ 0x_ff ∷ 0x_ff ∷ 0x_ff ∷ 0x00 ∷ []) 0 ≡ bad Overlong
+  pub ten_bytes : get_varint (0xFF ∷ 0xFF ∷ 0xFF ∷ 0xFF ∷ 0xFF ∷ 0xFF ∷ 0xFF ∷ 0xFF ∷ 0xFF ∷ 0x00 ∷ []) 0 ≡ bad Overlong
   pub eleven_bytes : get_varint (0x80 ∷ 0x80 ∷ 0x80 ∷ 0x80 ∷ 0x80 ∷ 0x80 ∷ 0x80 ∷ 0x80 ∷ 0x80 ∷ 0x80 ∷ 0x00 ∷ []) 0 ≡ bad VarintOverflow
   pub above_32_bits : get_u32 (0x80 ∷ 0x80 ∷ 0x80 ∷ 0x80 ∷ 0x90 ∷ 0x00 ∷ []) 0 ≡ bad VarintOverflow
   pub within_32_bits : get_u32 (0x80 ∷ 0x80 ∷ 0x80 ∷ 0x80 ∷ 0x80 ∷ 0x00 ∷ []) 0 ≡ bad Overlong

@@ -83,14 +83,14 @@ module _ (R : RattleType) (Φ : List ℕ → ℕ → R.Denot → Type 0) where
       Post = (walk_of 𝓛 (at_position R Φ) stayed (at_position_clauses R Φ 𝓤)).post (((κ, tt), (q, tt), tt, (s, (n, tt)), vals), tt)
 
       -- the call of f: the local at l is lent for the lifetime of a and κ, under the name δ
-      abbrev to-f : ℕ → ℕ → GName → (ByReader 𝓛).Ghost
-      to-f l a δ = (((a ∷ κ, (κ, tt)), (PosShare.left q, (PosShare.right q, tt)), (meet_⊑_right (a ∷ []) κ, tt), (ref l δ d, tt), (vptr l 0 ∷ [], tt)), tt)
+      abbrev to_f : ℕ → ℕ → GName → (ByReader 𝓛).Ghost
+      to_f l a δ = (((a ∷ κ, (κ, tt)), (PosShare.left q, (PosShare.right q, tt)), (meet_⊑_right (a ∷ []) κ, tt), (ref l δ d, tt), (vptr l 0 ∷ [], tt)), tt)
 
-      goes-f : (l a : ℕ) (δ : GName) → ent 𝓤 (⋆ 𝓛 (toks 𝓛 κ q l a ∷ ‵ (owns (ShrRef (named 0) (a ∷ κ) (B κ) ∷ []) (ref l δ d, tt) (vptr l 0 ∷ [], tt)) ∷ [])) ((ByReader 𝓛).pre (to-f l a δ))
-      goes-f l a δ = qed 𝓛 (toks 𝓛 κ q l a ∷ ‵ (owns (ShrRef (named 0) (a ∷ κ) (B κ) ∷ []) (ref l δ d, tt) (vptr l 0 ∷ [], tt)) ∷ []) ∵ join ! $ frame ! $ done !
+      goes_f : (l a : ℕ) (δ : GName) → ent 𝓤 (⋆ 𝓛 (toks 𝓛 κ q l a ∷ ‵ (owns (ShrRef (named 0) (a ∷ κ) (B κ) ∷ []) (ref l δ d, tt) (vptr l 0 ∷ [], tt)) ∷ [])) ((ByReader 𝓛).pre (to_f l a δ))
+      goes_f l a δ = qed 𝓛 (toks 𝓛 κ q l a ∷ ‵ (owns (ShrRef (named 0) (a ∷ κ) (B κ) ∷ []) (ref l δ d, tt) (vptr l 0 ∷ [], tt)) ∷ []) ∵ join ! $ frame ! $ done !
 
-      said-f : (l a : ℕ) (δ : GName) (r : R.Denot) → ent 𝓤 (ensured 𝓛 (by_reader R Φ) (by_reader_clauses R Φ 𝓤) (a ∷ κ, (κ, tt)) (ref l δ d, tt) tt r) (fact 𝓤 (Φ s.now n r))
-      said-f l a δ r = ex_e 𝓤 _ (λ ws. snd∗ 𝓤 (sem 𝓛 (lasts (by_reader R Φ) (a ∷ κ, (κ, tt)) (ref l δ d, tt) ws)) (fact 𝓤 (Φ s.now n r)))
+      said_f : (l a : ℕ) (δ : GName) (r : R.Denot) → ent 𝓤 (ensured 𝓛 (by_reader R Φ) (by_reader_clauses R Φ 𝓤) (a ∷ κ, (κ, tt)) (ref l δ d, tt) tt r) (fact 𝓤 (Φ s.now n r))
+      said_f l a δ r = ex_e 𝓤 _ (λ ws. snd∗ 𝓤 (sem 𝓛 (lasts (by_reader R Φ) (a ∷ κ, (κ, tt)) (ref l δ d, tt) ws)) (fact 𝓤 (Φ s.now n r)))
 
       exits : (r : R.Denot) (u : Val) → Φ s.now n r → ent 𝓤 (⋆ 𝓛 (‵ (flft κ q) ∷ ‵ (R.own r (u ∷ [])) ∷ ‵ ((ShrSlice (named 0) κ u8).own_val s (v ∷ [])) ∷ [])) (Post u)
       exits r u e =
@@ -109,11 +109,11 @@ module _ (R : RattleType) (Φ : List ℕ → ℕ → R.Denot → Type 0) where
           move ! (11 ∷ []) $ fsplit ! $ use1 𝓛 (‵ ((ShrSlice (named 0) κ u8).own_val s (v ∷ [])) ⊛ ‵ ((ShrSlice (named 0) κ u8).own_val s (v ∷ []))) ((shr_slice_copy 𝓛 (named 0) κ u8).twice s (v ∷ [])) $ split ! $
           use1 𝓛 (‵ (own κ d)) (make 𝓛 κ s n fits) $ move ! (13 ∷ []) $ split ! $ move ! (7 ∷ 2 ∷ 0 ∷ []) $
           use3 𝓛 (later (some (λ (x : ℕ × GName). toks 𝓛 κ q l₃ x.0 ⊛ (‵ (by_shr 𝓛 κ q l₃ x.0 x.1 d) ⊛ raw (Kept-shr 𝓛 κ q l₃ x.0 d))))) (lend_shr 𝓛 κ q l₃ d) $ await ! tt $ pick ! (λ x. split ! $ move ! (1 ∷ []) $ split ! $
-          nothing ! $ move ! (1 ∷ 0 ∷ []) $ fjoin ! $ move ! (2 ∷ 0 ∷ []) $ use2 𝓛 (raw ((ByReader 𝓛).pre (to-f l₃ x.0 x.1))) (goes-f l₃ x.0 x.1) $
+          nothing ! $ move ! (1 ∷ 0 ∷ []) $ fjoin ! $ move ! (2 ∷ 0 ∷ []) $ use2 𝓛 (raw ((ByReader 𝓛).pre (to_f l₃ x.0 x.1))) (goes_f l₃ x.0 x.1) $
           -- [what f asks; what is kept; true; what the slice owns; n's; _4; …; _3's end; _2; …; _1; …; room for _0; …]
-          calls_at ! fm (ByReader 𝓛) known (to-f l₃ x.0 x.1) (and_then ! (load ! (from ! (stop !)) (look ! 5 refl)) (no_more !)) (λ u.
+          calls_at ! fm (ByReader 𝓛) known (to_f l₃ x.0 x.1) (and_then ! (load ! (from ! (stop !)) (look ! 5 refl)) (no_more !)) (λ u.
           use1 𝓛 (later (some (λ (r : R.Denot). (toks 𝓛 κ q l₃ x.0 ⊛ ‵ (R.own r (u ∷ []))) ⊛ raw (ensured 𝓛 (by_reader R Φ) (by_reader_clauses R Φ 𝓤) (x.0 ∷ κ, (κ, tt)) (ref l₃ x.1 d, tt) tt r)))) (id⊢ 𝓤 _) $ await ! tt $ pick ! (λ r.
-          split ! $ move ! (1 ∷ []) $ use1 𝓛 (raw (fact 𝓤 (Φ s.now n r))) (said-f l₃ x.0 x.1 r) $ heard ! (Φ s.now n r) (λ e. split ! $ move ! (1 ∷ []) $ peeks ! R (Is R) (shows 𝓛 R) r (u ∷ []) (λ is.
+          split ! $ move ! (1 ∷ []) $ use1 𝓛 (raw (fact 𝓤 (Φ s.now n r))) (said_f l₃ x.0 x.1 r) $ heard ! (Φ s.now n r) (λ e. split ! $ move ! (1 ∷ []) $ peeks ! R (Is R) (shows 𝓛 R) r (u ∷ []) (λ is.
           -- [the result; the tokens; what is kept; true; what the slice owns; n's; _4; …; _3's end; _2; …; _1; …; room for _0; …]
           land ! (from ! (stop !)) (init ! 13 refl (result r u is)) $
           move ! (2 ∷ 1 ∷ []) $ use2 𝓛 (later (given (Is (B κ) d (T'.lowered d ∷ [])) (‵ (cell l₃ d) ⊛ (‵ (own κ d) ⊛ ‵ (flft κ q))))) (back_shr 𝓛 κ q l₃ x.0 d) $ await ! tt $ learn ! (λ _. split ! $
@@ -122,8 +122,8 @@ module _ (R : RattleType) (Φ : List ℕ → ℕ → R.Denot → Type 0) where
           move ! (13 ∷ 14 ∷ []) $ free1 ! $ move ! (11 ∷ 12 ∷ []) $ free1 ! $ move ! (9 ∷ 10 ∷ []) $ free1 ! $ move ! (0 ∷ 8 ∷ []) $ free1 ! $ move ! (5 ∷ 6 ∷ []) $ free1 ! $ free0 ! $
           split ! $ keep ! (1 ∷ 2 ∷ 4 ∷ []) $ by ! (exits r u e))))))))))))
 
-    pub goes-seeing : (𝓣 : Tables 𝓤 H) → Triple 𝓤 (𝓣.C f) (ByReader 𝓛) → Meets 𝓛 (at_position R Φ).signature (WpFn 𝓤 H 𝓣.C 𝓣.Λ (seeing τ f)) (closing 𝓛 (at_position R Φ) (at_position_clauses R Φ 𝓤))
-    goes-seeing 𝓣 known =
+    pub goes_seeing : (𝓣 : Tables 𝓤 H) → Triple 𝓤 (𝓣.C f) (ByReader 𝓛) → Meets 𝓛 (at_position R Φ).signature (WpFn 𝓤 H 𝓣.C 𝓣.Λ (seeing τ f)) (closing 𝓛 (at_position R Φ) (at_position_clauses R Φ 𝓤))
+    goes_seeing 𝓣 known =
         walk_Meets 𝓛 (at_position R Φ) stayed (Goes-none_slice 𝓛 1 (0 ∷ []) tt (plain (λ _. u8)) yes, (Goes-none 𝓛 1 (λ _. usize) yes (λ κs x f. refl), tt)) (at_position_clauses R Φ 𝓤) (WpFn 𝓤 H 𝓣.C 𝓣.Λ (seeing τ f)) (WpFn-mono 𝓤 H 𝓛.laws 𝓣 (seeing τ f))
         (walked 𝓛 (at_position R Φ) stayed (at_position_clauses R Φ 𝓤) (WpFn 𝓤 H 𝓣.C 𝓣.Λ (seeing τ f)) (λ κs. (shr_slice_vals, (uint_vals w64, tt))) (λ κs. (shr_slice_Tells (named 0) κs.0 u8, (uint_Tells w64, tt)))
         (λ κs qs bounds a _ are. via 𝓤 _ (fst∗ 𝓤 _ (emp 𝓤)) (walk κs.0 qs.0 a.0 a.1.0 are.1.0.1 𝓣.C 𝓣.Λ (fm_of 𝓤 H 𝓛.laws 𝓣) known are.0)))

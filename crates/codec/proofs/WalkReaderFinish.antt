@@ -99,17 +99,17 @@ module _ (R : RattleType) (Φ : List ℕ → ℕ → R.Denot → Type 0) where
       abbrev passed : List Val × (List Val × Unit {0})
       passed = (slice d ∷ [], (vint w64 d.pos ∷ [], tt))
 
-      abbrev to-f : (AtPosition 𝓛).Ghost
-      to-f = (((κ', tt), (q', tt), tt, (d.buf, (d.pos, tt)), passed), tt)
+      abbrev to_f : (AtPosition 𝓛).Ghost
+      to_f = (((κ', tt), (q', tt), tt, (d.buf, (d.pos, tt)), passed), tt)
 
-      goes-f : ent 𝓤 (⋆ 𝓛 ((‵ (flft κ' q') ⊛ ‵ ftrue) ∷ ‵ (owns (ShrSlice (named 0) κ' u8 ∷ usize ∷ []) (d.buf, (d.pos, tt)) passed) ∷ [])) ((AtPosition 𝓛).pre to-f)
-      goes-f = qed 𝓛 ((‵ (flft κ' q') ⊛ ‵ ftrue) ∷ ‵ (owns (ShrSlice (named 0) κ' u8 ∷ usize ∷ []) (d.buf, (d.pos, tt)) passed) ∷ []) ∵ join ! $ frame ! $ done !
+      goes_f : ent 𝓤 (⋆ 𝓛 ((‵ (flft κ' q') ⊛ ‵ ftrue) ∷ ‵ (owns (ShrSlice (named 0) κ' u8 ∷ usize ∷ []) (d.buf, (d.pos, tt)) passed) ∷ [])) ((AtPosition 𝓛).pre to_f)
+      goes_f = qed 𝓛 ((‵ (flft κ' q') ⊛ ‵ ftrue) ∷ ‵ (owns (ShrSlice (named 0) κ' u8 ∷ usize ∷ []) (d.buf, (d.pos, tt)) passed) ∷ []) ∵ join ! $ frame ! $ done !
 
       abbrev Told : R.Denot → Type 0
       Told r = Φ d.buf.now d.pos r
 
-      said-f : (r : R.Denot) → ent 𝓤 (ensured 𝓛 at_position (at_position_clauses 𝓤) (κ', tt) (d.buf, (d.pos, tt)) tt r) (fact 𝓤 (Told r))
-      said-f r = ex_e 𝓤 _ (λ ws. snd∗ 𝓤 (sem 𝓛 (lasts at_position (κ', tt) (d.buf, (d.pos, tt)) ws)) (fact 𝓤 (Told r)))
+      said_f : (r : R.Denot) → ent 𝓤 (ensured 𝓛 at_position (at_position_clauses 𝓤) (κ', tt) (d.buf, (d.pos, tt)) tt r) (fact 𝓤 (Told r))
+      said_f r = ex_e 𝓤 _ (λ ws. snd∗ 𝓤 (sem 𝓛 (lasts at_position (κ', tt) (d.buf, (d.pos, tt)) ws)) (fact 𝓤 (Told r)))
 
       exits : (r : R.Denot) (u : Val) → Told r → ent 𝓤 (⋆ 𝓛 (‵ (R.own r (u ∷ [])) ∷ (‵ (flft κ' q') ⊛ ‵ ftrue) ∷ ‵ (flft κ q) ∷ ‵ (fshr_bor κ (λ s. part_at (B κ') s d b o)) ∷ ‵ (fres γ ((B κ').coded.code d)) ∷ [])) (Post u)
       exits r u e =
@@ -133,10 +133,10 @@ module _ (R : RattleType) (Φ : List ℕ → ℕ → R.Denot → Type 0) where
           assigns ! (of_opd ! (load ! (from ! (hop ! (look ! 12 refl) (fld ! refl (stop !)))) (look_in ! 2 (sub ! 1 refl (whole !))))) (from ! (stop !)) (init ! 8 refl (tt, record { fits = pos_fits κ' d is })) $
           move ! (2 ∷ []) $ use1 𝓛 (‵ (cell_at s (B κ').mir (T'.lowered d ∷ []) b o)) (𝓛.laws.at_raw s (T'.mir erased) b o (T'.lowered d)) $ move ! (0 ∷ 2 ∷ 3 ∷ []) $ shuts ! tt (B κ') s d (T'.lowered d ∷ []) b o $
           -- [the token; what the slice owns; the borrow; 'a's token; res; true; _3; …; _2; …; _1; …; room for _0; …]
-          move ! (1 ∷ []) $ nothing ! $ owned ! usize (Is usize) (uint_Makes 𝓛 w64) d.pos _ (refl, pos_fits κ' d is) $ fjoin ! $ move ! (1 ∷ 0 ∷ []) $ fjoin ! $ move ! (3 ∷ 0 ∷ []) $ use2 𝓛 (raw ((AtPosition 𝓛).pre to-f)) goes-f $
-          calls_at ! fm (AtPosition 𝓛) known to-f (and_then ! (load ! (from ! (stop !)) (look ! 7 refl)) (and_then ! (load ! (from ! (stop !)) (look ! 5 refl)) (no_more !))) (λ u.
+          move ! (1 ∷ []) $ nothing ! $ owned ! usize (Is usize) (uint_Makes 𝓛 w64) d.pos _ (refl, pos_fits κ' d is) $ fjoin ! $ move ! (1 ∷ 0 ∷ []) $ fjoin ! $ move ! (3 ∷ 0 ∷ []) $ use2 𝓛 (raw ((AtPosition 𝓛).pre to_f)) goes_f $
+          calls_at ! fm (AtPosition 𝓛) known to_f (and_then ! (load ! (from ! (stop !)) (look ! 7 refl)) (and_then ! (load ! (from ! (stop !)) (look ! 5 refl)) (no_more !))) (λ u.
           use1 𝓛 (later (some (λ (r : R.Denot). ((‵ (flft κ' q') ⊛ ‵ ftrue) ⊛ ‵ (R.own r (u ∷ []))) ⊛ raw (ensured 𝓛 at_position (at_position_clauses 𝓤) (κ', tt) (d.buf, (d.pos, tt)) tt r)))) (id⊢ 𝓤 _) $ await ! tt $ pick ! (λ r.
-          split ! $ move ! (1 ∷ []) $ use1 𝓛 (raw (fact 𝓤 (Told r))) (said-f r) $ heard ! (Told r) (λ e. split ! $ move ! (1 ∷ []) $ peeks ! R (Is R) (shows 𝓛 R) r (u ∷ []) (λ is'.
+          split ! $ move ! (1 ∷ []) $ use1 𝓛 (raw (fact 𝓤 (Told r))) (said_f r) $ heard ! (Told r) (λ e. split ! $ move ! (1 ∷ []) $ peeks ! R (Is R) (shows 𝓛 R) r (u ∷ []) (λ is'.
           -- [what the result owns; 'a's token; the token; the borrow; res; true; _3; …; _2; …; _1; …; room for _0; …]
           land ! (from ! (stop !)) (init ! 12 refl (result r u is')) $ returns ! (look ! 12 refl) $ forget ! 6 refl $ forget ! 8 refl $ forget ! 10 refl $ forget ! 12 refl $
           move ! (12 ∷ 13 ∷ []) $ free1 ! $ move ! (10 ∷ 11 ∷ []) $ free1 ! $ move ! (8 ∷ 9 ∷ []) $ free1 ! $ move ! (6 ∷ 7 ∷ []) $ free1 ! $ free0 ! $ keep ! (0 ∷ 1 ∷ 2 ∷ 3 ∷ 4 ∷ []) $ by ! (exits r u e)))))))))))

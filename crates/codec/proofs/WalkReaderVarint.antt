@@ -127,27 +127,27 @@ module _ (g : List ℕ → ℕ → Got ℕ) (f : Name) {M : Type 1} {𝓤 : Ura 
     abbrev passed : List Val × (List Val × Unit {0})
     passed = (slice d ∷ [], (vint w64 d.pos ∷ [], tt))
 
-    abbrev to-f : (AtPosition g 𝓛).Ghost
-    to-f = (((κ', tt), (q', tt), tt, (d.buf, (d.pos, tt)), passed), tt)
+    abbrev to_f : (AtPosition g 𝓛).Ghost
+    to_f = (((κ', tt), (q', tt), tt, (d.buf, (d.pos, tt)), passed), tt)
 
-    goes-f : ent 𝓤 (⋆ 𝓛 ((‵ (flft κ' q') ⊛ ‵ ftrue) ∷ ‵ (owns (ShrSlice (named 0) κ' u8 ∷ usize ∷ []) (d.buf, (d.pos, tt)) passed) ∷ [])) ((AtPosition g 𝓛).pre to-f)
-    goes-f = qed 𝓛 ((‵ (flft κ' q') ⊛ ‵ ftrue) ∷ ‵ (owns (ShrSlice (named 0) κ' u8 ∷ usize ∷ []) (d.buf, (d.pos, tt)) passed) ∷ []) ∵ join ! $ frame ! $ done !
+    goes_f : ent 𝓤 (⋆ 𝓛 ((‵ (flft κ' q') ⊛ ‵ ftrue) ∷ ‵ (owns (ShrSlice (named 0) κ' u8 ∷ usize ∷ []) (d.buf, (d.pos, tt)) passed) ∷ [])) ((AtPosition g 𝓛).pre to_f)
+    goes_f = qed 𝓛 ((‵ (flft κ' q') ⊛ ‵ ftrue) ∷ ‵ (owns (ShrSlice (named 0) κ' u8 ∷ usize ∷ []) (d.buf, (d.pos, tt)) passed) ∷ []) ∵ join ! $ frame ! $ done !
 
     abbrev Read : NumberRead → Type 0
     Read r = got_number r ≡ read_by g d
 
-    said-f : (r : NumberRead) → ent 𝓤 (ensured 𝓛 at_position (at_position_clauses g 𝓤) (κ', tt) (d.buf, (d.pos, tt)) tt r) (fact 𝓤 (Read r))
-    said-f r = ex_e 𝓤 _ (λ ws. snd∗ 𝓤 (sem 𝓛 (lasts at_position (κ', tt) (d.buf, (d.pos, tt)) ws)) (fact 𝓤 (Read r)))
+    said_f : (r : NumberRead) → ent 𝓤 (ensured 𝓛 at_position (at_position_clauses g 𝓤) (κ', tt) (d.buf, (d.pos, tt)) tt r) (fact 𝓤 (Read r))
+    said_f r = ex_e 𝓤 _ (λ ws. snd∗ 𝓤 (sem 𝓛 (lasts at_position (κ', tt) (d.buf, (d.pos, tt)) ws)) (fact 𝓤 (Read r)))
 
     -- the call of `past_number`
-    abbrev to-past : NumberRead → Val → (PastNumber 𝓛 at_mem run).Ghost
-    to-past r u = ((tt, tt, tt, (r, (d.pos, tt)), (u ∷ [], (vint w64 d.pos ∷ [], tt))), tt)
+    abbrev to_past : NumberRead → Val → (PastNumber 𝓛 at_mem run).Ghost
+    to_past r u = ((tt, tt, tt, (r, (d.pos, tt)), (u ∷ [], (vint w64 d.pos ∷ [], tt))), tt)
 
-    goes-past : (r : NumberRead) (u : Val) → ent 𝓤 (⋆ 𝓛 (‵ ftrue ∷ ‵ (owns (N.the_row ∷ usize ∷ []) (r, (d.pos, tt)) (u ∷ [], (vint w64 d.pos ∷ [], tt))) ∷ [])) ((PastNumber 𝓛 at_mem run).pre (to-past r u))
-    goes-past r u = qed 𝓛 (‵ ftrue ∷ ‵ (owns (N.the_row ∷ usize ∷ []) (r, (d.pos, tt)) (u ∷ [], (vint w64 d.pos ∷ [], tt))) ∷ []) ∵ join ! $ frame ! $ done !
+    goes_past : (r : NumberRead) (u : Val) → ent 𝓤 (⋆ 𝓛 (‵ ftrue ∷ ‵ (owns (N.the_row ∷ usize ∷ []) (r, (d.pos, tt)) (u ∷ [], (vint w64 d.pos ∷ [], tt))) ∷ [])) ((PastNumber 𝓛 at_mem run).pre (to_past r u))
+    goes_past r u = qed 𝓛 (‵ ftrue ∷ ‵ (owns (N.the_row ∷ usize ∷ []) (r, (d.pos, tt)) (u ∷ [], (vint w64 d.pos ∷ [], tt))) ∷ []) ∵ join ! $ frame ! $ done !
 
-    said-past : (r : NumberRead) (n : ℕ) → ent 𝓤 (ensured 𝓛 past_number.ended (past_number.clauses 𝓛 at_mem run) tt (r, (d.pos, tt)) tt n) (fact 𝓤 (n ≡ past_read d.pos (got_number r)))
-    said-past r n = ex_e 𝓤 _ (λ ws. snd∗ 𝓤 (sem 𝓛 (lasts past_number.ended tt (r, (d.pos, tt)) ws)) (fact 𝓤 (n ≡ past_read d.pos (got_number r))))
+    said_past : (r : NumberRead) (n : ℕ) → ent 𝓤 (ensured 𝓛 past_number.ended (past_number.clauses 𝓛 at_mem run) tt (r, (d.pos, tt)) tt n) (fact 𝓤 (n ≡ past_read d.pos (got_number r)))
+    said_past r n = ex_e 𝓤 _ (λ ws. snd∗ 𝓤 (sem 𝓛 (lasts past_number.ended tt (r, (d.pos, tt)) ws)) (fact 𝓤 (n ≡ past_read d.pos (got_number r))))
 
     exits : (r : NumberRead) (u : Val) (n : ℕ) → Is N.the_row r (u ∷ []) → Said g d r (at d n) → ent 𝓤 (⋆ 𝓛 (‵ (fobs γ ((B κ').coded.code (at d n))) ∷ ‵ (fbor κ (Body (mem (B κ')) b o γ)) ∷ ‵ (flft κ q) ∷ (‵ (flft κ' q') ⊛ ‵ ftrue) ∷ [])) (Post u)
     exits r u n is e =
@@ -169,18 +169,18 @@ module _ (g : List ℕ → ℕ → Got ℕ) (f : Name) {M : Type 1} {𝓤 : Ura 
         -- [what the slice owns; what the reader owns; its cell; the open borrow; obs; auth; 'a's token; true; _5; …; _4; …; _3; …; _2; …; _1; …; room for _0; …]
         assigns ! (of_opd ! (load ! (from ! (hop ! (look ! 16 refl) (fld ! refl (stop !)))) (look_in ! 2 (sub ! 0 refl (whole !))))) (from ! (stop !)) (init ! 12 refl (tt, (typed κ' d 𝓛 is).1.0)) $
         assigns ! (of_opd ! (load ! (from ! (hop ! (look ! 16 refl) (fld ! refl (stop !)))) (look_in ! 2 (sub ! 1 refl (whole !))))) (from ! (stop !)) (init ! 10 refl (tt, record { fits = pos_fits κ' d is })) $
-        nothing ! $ owned ! usize (Is usize) (uint_Makes 𝓛 w64) d.pos _ (refl, pos_fits κ' d is) $ fjoin ! $ move ! (1 ∷ 0 ∷ []) $ fjoin ! $ move ! (6 ∷ 0 ∷ []) $ use2 𝓛 (raw ((AtPosition g 𝓛).pre to-f)) goes-f $
-        calls_at ! fm (AtPosition g 𝓛) known to-f (and_then ! (load ! (from ! (stop !)) (look ! 11 refl)) (and_then ! (load ! (from ! (stop !)) (look ! 9 refl)) (no_more !))) (λ u.
+        nothing ! $ owned ! usize (Is usize) (uint_Makes 𝓛 w64) d.pos _ (refl, pos_fits κ' d is) $ fjoin ! $ move ! (1 ∷ 0 ∷ []) $ fjoin ! $ move ! (6 ∷ 0 ∷ []) $ use2 𝓛 (raw ((AtPosition g 𝓛).pre to_f)) goes_f $
+        calls_at ! fm (AtPosition g 𝓛) known to_f (and_then ! (load ! (from ! (stop !)) (look ! 11 refl)) (and_then ! (load ! (from ! (stop !)) (look ! 9 refl)) (no_more !))) (λ u.
         use1 𝓛 (later (some (λ (r : NumberRead). ((‵ (flft κ' q') ⊛ ‵ ftrue) ⊛ ‵ ((N.the_row).own_val r (u ∷ []))) ⊛ raw (ensured 𝓛 at_position (at_position_clauses g 𝓤) (κ', tt) (d.buf, (d.pos, tt)) tt r)))) (id⊢ 𝓤 _) $ await ! tt $ pick ! (λ r.
-        split ! $ move ! (1 ∷ []) $ use1 𝓛 (raw (fact 𝓤 (Read r))) (said-f r) $ heard ! (Read r) (λ e. split ! $ move ! (1 ∷ []) $ peeks ! N.the_row (Is N.the_row) (shows 𝓛 N.the_row) r (u ∷ []) (λ is'.
+        split ! $ move ! (1 ∷ []) $ use1 𝓛 (raw (fact 𝓤 (Read r))) (said_f r) $ heard ! (Read r) (λ e. split ! $ move ! (1 ∷ []) $ peeks ! N.the_row (Is N.the_row) (shows 𝓛 N.the_row) r (u ∷ []) (λ is'.
         -- [what the answer owns; 'a's token; what the reader owns; its cell; the open borrow; obs; auth; true; _5; …; _4; …; _3; …; _2; …; _1; …; room for _0; …]
         land ! (from ! (stop !)) (init ! 14 refl ((EL.lawful N.the_type N'.the_laws 𝓛 tt).typed r _ is').0) $
         assigns ! (of_opd ! (load ! (from ! (hop ! (look ! 16 refl) (fld ! refl (stop !)))) (look_in ! 3 (sub ! 1 refl (whole !))))) (from ! (stop !)) (init ! 8 refl (tt, record { fits = pos_fits κ' d is })) $
         drop ! $ nothing ! $ owned ! usize (Is usize) (uint_Makes 𝓛 w64) d.pos _ (refl, pos_fits κ' d is) $ fjoin ! $ owned ! N.the_row (Is N.the_row) (EL.makes N.the_type N'.the_plain 𝓛) r _ is' $ fjoin ! $ nothing ! $
-        use2 𝓛 (raw ((PastNumber 𝓛 at_mem run).pre (to-past r u))) (goes-past r u) $
-        calls_at ! fm (PastNumber 𝓛 at_mem run) known_past (to-past r u) (and_then ! (load ! (from ! (stop !)) (look ! 14 refl)) (and_then ! (load ! (from ! (stop !)) (look ! 8 refl)) (no_more !))) (λ w.
+        use2 𝓛 (raw ((PastNumber 𝓛 at_mem run).pre (to_past r u))) (goes_past r u) $
+        calls_at ! fm (PastNumber 𝓛 at_mem run) known_past (to_past r u) (and_then ! (load ! (from ! (stop !)) (look ! 14 refl)) (and_then ! (load ! (from ! (stop !)) (look ! 8 refl)) (no_more !))) (λ w.
         use1 𝓛 (later (some (λ (n : ℕ). (‵ ftrue ⊛ ‵ (usize.own_val n (w ∷ []))) ⊛ raw (ensured 𝓛 past_number.ended (past_number.clauses 𝓛 at_mem run) tt (r, (d.pos, tt)) tt n)))) (id⊢ 𝓤 _) $ await ! tt $ pick ! (λ n.
-        split ! $ move ! (1 ∷ []) $ use1 𝓛 (raw (fact 𝓤 (n ≡ past_read d.pos (got_number r)))) (said-past r n) $ heard ! (n ≡ past_read d.pos (got_number r)) (λ e'. split ! $ drop ! $ peeks ! usize (Is usize) (shows 𝓛 usize) n (w ∷ []) (λ is''.
+        split ! $ move ! (1 ∷ []) $ use1 𝓛 (raw (fact 𝓤 (n ≡ past_read d.pos (got_number r)))) (said_past r n) $ heard ! (n ≡ past_read d.pos (got_number r)) (λ e'. split ! $ drop ! $ peeks ! usize (Is usize) (shows 𝓛 usize) n (w ∷ []) (λ is''.
         -- [what the position owns; 'a's token; what the reader owns; its cell; the open borrow; obs; auth; true; _5; …; _4; …; _3; …; _2; …; _1; …; room for _0; …]
         land ! (from ! (stop !)) (store ! 10 refl ((uint_Lawful 𝓛 w64).typed n _ is'').0) $ rewrite ! 10 (λ (v : Val). ‵ (fat full_share (ty_int w64) l₄ 0 v)) (ap only is''.0) refl $
         assigns ! (of_opd ! (load ! (from ! (stop !)) (look ! 10 refl))) (from ! (hop ! (look ! 16 refl) (fld ! refl (stop !)))) (store_in ! 3 (sub ! 1 refl (whole !)) (tt, record { fits = is''.1 })) $

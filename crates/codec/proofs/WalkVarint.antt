@@ -87,11 +87,11 @@ module _ (g : List ℕ → ℕ → Got ℕ) (f : Name) {M : Type 1} {𝓤 : Ura 
     Post = (walk_of 𝓛 at_position stayed (at_position_clauses g 𝓤)).post (((κ, tt), (q, tt), tt, (s, (n, tt)), vals), tt)
 
     -- the call of f: the local at l is lent for the lifetime of a and κ, under the name δ
-    abbrev to-f : ℕ → ℕ → GName → (ByReader g 𝓛).Ghost
-    to-f l a δ = (((a ∷ κ, (κ, tt)), (PosShare.left q, (PosShare.right q, tt)), (meet_⊑_right (a ∷ []) κ, tt), (ref l δ d, tt), (vptr l 0 ∷ [], tt)), tt)
+    abbrev to_f : ℕ → ℕ → GName → (ByReader g 𝓛).Ghost
+    to_f l a δ = (((a ∷ κ, (κ, tt)), (PosShare.left q, (PosShare.right q, tt)), (meet_⊑_right (a ∷ []) κ, tt), (ref l δ d, tt), (vptr l 0 ∷ [], tt)), tt)
 
-    goes-f : (l a : ℕ) (δ : GName) → ent 𝓤 (⋆ 𝓛 (toks 𝓛 κ q l a ∷ ‵ (owns (MutRef (named 0) (a ∷ κ) (B κ) ∷ []) (ref l δ d, tt) (vptr l 0 ∷ [], tt)) ∷ [])) ((ByReader g 𝓛).pre (to-f l a δ))
-    goes-f l a δ = qed 𝓛 (toks 𝓛 κ q l a ∷ ‵ (owns (MutRef (named 0) (a ∷ κ) (B κ) ∷ []) (ref l δ d, tt) (vptr l 0 ∷ [], tt)) ∷ []) ∵ join ! $ frame ! $ done !
+    goes_f : (l a : ℕ) (δ : GName) → ent 𝓤 (⋆ 𝓛 (toks 𝓛 κ q l a ∷ ‵ (owns (MutRef (named 0) (a ∷ κ) (B κ) ∷ []) (ref l δ d, tt) (vptr l 0 ∷ [], tt)) ∷ [])) ((ByReader g 𝓛).pre (to_f l a δ))
+    goes_f l a δ = qed 𝓛 (toks 𝓛 κ q l a ∷ ‵ (owns (MutRef (named 0) (a ∷ κ) (B κ) ∷ []) (ref l δ d, tt) (vptr l 0 ∷ [], tt)) ∷ []) ∵ join ! $ frame ! $ done !
 
     exits : (r : NumberRead) (u : Val) → got_number r ≡ g s.now n → ent 𝓤 (⋆ 𝓛 (‵ (flft κ q) ∷ ‵ ((N.the_row).own_val r (u ∷ [])) ∷ ‵ ((ShrSlice (named 0) κ u8).own_val s (v ∷ [])) ∷ [])) (Post u)
     exits r u e =
@@ -110,9 +110,9 @@ module _ (g : List ℕ → ℕ → Got ℕ) (f : Name) {M : Type 1} {𝓤 : Ura 
         move ! (11 ∷ []) $ fsplit ! $ use1 𝓛 (‵ ((ShrSlice (named 0) κ u8).own_val s (v ∷ [])) ⊛ ‵ ((ShrSlice (named 0) κ u8).own_val s (v ∷ []))) ((shr_slice_copy 𝓛 (named 0) κ u8).twice s (v ∷ [])) $ split ! $
         use1 𝓛 (‵ (own κ d)) (make 𝓛 κ s n fits) $ move ! (13 ∷ []) $ split ! $ move ! (7 ∷ 2 ∷ 0 ∷ []) $
         use3 𝓛 (later (some (λ (x : ℕ × GName). toks 𝓛 κ q l₃ x.0 ⊛ (‵ (by_mut 𝓛 κ q l₃ x.0 x.1 d) ⊛ raw (Kept 𝓛 κ q l₃ x.0 x.1))))) (lend 𝓛 κ q l₃ d) $ await ! tt $ pick ! (λ x. split ! $ move ! (1 ∷ []) $ split ! $
-        nothing ! $ move ! (1 ∷ 0 ∷ []) $ fjoin ! $ move ! (2 ∷ 0 ∷ []) $ use2 𝓛 (raw ((ByReader g 𝓛).pre (to-f l₃ x.0 x.1))) (goes-f l₃ x.0 x.1) $
+        nothing ! $ move ! (1 ∷ 0 ∷ []) $ fjoin ! $ move ! (2 ∷ 0 ∷ []) $ use2 𝓛 (raw ((ByReader g 𝓛).pre (to_f l₃ x.0 x.1))) (goes_f l₃ x.0 x.1) $
         -- [what f asks; what is kept; true; what the slice owns; n's; _4; …; _3's end; _2; …; _1; …; room for _0; …]
-        calls_at ! fm (ByReader g 𝓛) known (to-f l₃ x.0 x.1) (and_then ! (load ! (from ! (stop !)) (look ! 5 refl)) (no_more !)) (λ u.
+        calls_at ! fm (ByReader g 𝓛) known (to_f l₃ x.0 x.1) (and_then ! (load ! (from ! (stop !)) (look ! 5 refl)) (no_more !)) (λ u.
         use1 𝓛 (later (some (λ (r : NumberRead). (toks 𝓛 κ q l₃ x.0 ⊛ ‵ ((N.the_row).own_val r (u ∷ []))) ⊛ raw (ensured 𝓛 by_reader (by_reader_clauses g 𝓤) (x.0 ∷ κ, (κ, tt)) (ref l₃ x.1 d, tt) tt r)))) (id⊢ 𝓤 _) $ await ! tt $ pick ! (λ r.
         split ! $ move ! (1 ∷ []) $ use1 𝓛 (some (λ (zs : Reader × Unit {0}). ‵ (lasts by_reader (x.0 ∷ κ, (κ, tt)) (ref l₃ x.1 d, tt) zs) ⊛ raw (fact 𝓤 (Said g d r zs.0)))) (id⊢ 𝓤 _) $ pick ! (λ zs.
         split ! $ move ! (1 ∷ []) $ heard ! (Said g d r zs.0) (λ e. fsplit ! $ move ! (2 ∷ []) $ split ! $ move ! (1 ∷ []) $ peeks ! N.the_row (Is N.the_row) (shows 𝓛 N.the_row) r (u ∷ []) (λ is.

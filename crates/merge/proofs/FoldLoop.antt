@@ -114,11 +114,11 @@ module _ {s starts : List ℕ} {time n : ℕ} {j : HybridClock} {f : Folded} {i 
       sym (g.left ∙ rw (z, e))
 
   module _ (h : i < n) where
-    pub in-starts : i < length starts
-    in-starts = omega (arith, g.all, g.begun.room)
+    pub in_starts : i < length starts
+    in_starts = omega (arith, g.all, g.begun.room)
 
-    pub failed-few : f.failed < 64
-    failed-few = omega (arith, g.few, g.all, g.begun.few)
+    pub failed_few : f.failed < 64
+    failed_few = omega (arith, g.few, g.all, g.begun.few)
 
     abbrev at : ℕ
     at = start_of s g.begun.first i
@@ -129,11 +129,11 @@ module _ {s starts : List ℕ} {time n : ℕ} {j : HybridClock} {f : Folded} {i 
     read_one : is_read (read_rows s at (suc (n - (i + 1)))) ≡ true
     read_one = rw one at g.read
 
-    starts-here : get_or starts i 0 ≡ at
-    starts-here = g.begun.starts_are i (omega (arith, g.all))
+    starts_here : get_or starts i 0 ≡ at
+    starts_here = g.begun.starts_are i (omega (arith, g.all))
 
     pub row_read : is_read (read_row s (get_or starts i 0)) ≡ true
-    row_read = rw starts-here (row_is_read s (n - (i + 1)) at read_one)
+    row_read = rw starts_here (row_is_read s (n - (i + 1)) at read_one)
 
     -- the row, and where the next one starts
     row : (b : BatchRow) × (next : ℕ) × (read_row s at ≡ got b next)
@@ -149,12 +149,12 @@ module _ {s starts : List ℕ} {time n : ℕ} {j : HybridClock} {f : Folded} {i 
 
     stamp_is : (batch_row_at s (get_or starts i 0)).stamp ≡ row.0.row.stamp
     unfolding batch_row_at
-    stamp_is = rw starts-here (ap (λ (x : Got BatchRow). (arrived_by 0 x).row.stamp) row.2)
+    stamp_is = rw starts_here (ap (λ (x : Got BatchRow). (arrived_by 0 x).row.stamp) row.2)
 
-    pub folding-turn : (stamp : Timestamp) → stamp ≡ (batch_row_at s (get_or starts i 0)).stamp → (f' : Folded)
+    pub folding_turn : (stamp : Timestamp) → stamp ≡ (batch_row_at s (get_or starts i 0)).stamp → (f' : Folded)
         → folded_of f' ≡ one_more (update_call f.clock stamp time) f.failed → Folding s starts time n j f' (i + 1)
     unfolding fold
-    folding-turn stamp e f' q =
+    folding_turn stamp e f' q =
         let u = update_call f.clock stamp time in
         let t : stamp ≡ row.0.row.stamp = e ∙ stamp_is in
         let clock : f'.clock ≡ u.left = ap (λ (x : delta.Folded). x.clock) q in

@@ -44,8 +44,8 @@ use Rattle.quota.specs.Inside.Room.{rows_logged}
 use Rattle.merge.specs.Inside.Decision.{Opened, SettleNeeds, SettledRows, JudgeNeeds, Judged, Accepts, Merges}
 use Rattle.merge.specs.declared.deciding.Settled.TheVariants as settled
 use Rattle.merge.specs.declared.deciding.Decision.TheVariants as decision
-use Rattle.merge.proofs.UsedSlots.{used_slot, used-refs, used-rows, used_slots}
-use Rattle.merge.proofs.RisingReferences.{slots-rise, length_work, length_slots}
+use Rattle.merge.proofs.UsedSlots.{used_slot, used_refs, used_rows, used_slots}
+use Rattle.merge.proofs.RisingReferences.{slots_rise, length_work, length_slots}
 use Rattle.merge.proofs.WrittenAreas.{with_held, commit_is}
 use Rattle.words.specs.Lists.{count_if}
 use Rattle.log.specs.Insertion.{insert_all, fits}
@@ -184,8 +184,8 @@ module _ (a : Areas) (l : Limits) (time : ℕ) (batch scratch starts : List ℕ)
     few : waiting + logged ≤ count + n
     few = omega (arith, d.total, o.taken.counted)
 
-    pub judge-needs : JudgeNeeds a.log u batch a.head t waiting logged
-    judge-needs = record {
+    pub judge_needs : JudgeNeeds a.log u batch a.head t waiting logged
+    judge_needs = record {
       working = record { room = omega (arith, few, o.room); refs = d.refers.waiting_refs };
       waiting_few = omega (arith, few, o.counts, k.held_few, o.taken.few);
       stored = record { store = o.store; behind = _; rest = _; stored = read_stored a o.store o.reads };
@@ -202,15 +202,15 @@ module _ (a : Areas) (l : Limits) (time : ℕ) (batch scratch starts : List ℕ)
     unfolding settle
     settles = rw clock_is at d.is
 
-    logged-rows : rows_logged u batch t logged ≡ rows_of d.drained.logged
+    logged_rows_lem : rows_logged u batch t logged ≡ rows_of d.drained.logged
     unfolding rows_logged
-    logged-rows = rows_time u batch time (column t 8 logged) ∙ ap rows_of d.refers.logged_are
+    logged_rows_lem = rows_time u batch time (column t 8 logged) ∙ ap rows_of d.refers.logged_are
 
-    authors-told : authors ≡ length (insert_all o.store (rows_logged u batch t logged)).clock
-    authors-told =
+    authors_told : authors ≡ length (insert_all o.store (rows_logged u batch t logged)).clock
+    authors_told =
         let g : d.drained.clock ≡ derive o.store.clock (rows_of d.drained.logged) =
         rw d.is (drain_clock (entries (clock_at a.head 48)) d.admitted.working) ∙ ap (λ c. derive c (rows_of d.drained.logged)) clock_is in
-        d.authors_are ∙ ap length (g ∙ sym (all_clock o.store (rows_of d.drained.logged))) ∙ ap (λ rs. length (insert_all o.store rs).clock) (sym logged-rows)
+        d.authors_are ∙ ap length (g ∙ sym (all_clock o.store (rows_of d.drained.logged))) ∙ ap (λ rs. length (insert_all o.store rs).clock) (sym logged_rows_lem)
 
     abbrev expect : Answer Unit
     expect = and_then (quotas l d.drained.waiting) (λ u. unit_of (fits (capacity a.log) (commit o.store d.drained)))
@@ -219,18 +219,18 @@ module _ (a : Areas) (l : Limits) (time : ℕ) (batch scratch starts : List ℕ)
       told : answer ≡ expect
       told =
           let g : unit_of (fits (capacity a.log) (insert_all o.store (rows_logged u batch t logged))) ≡ unit_of (fits (capacity a.log) (commit o.store d.drained)) =
-          rw (logged-rows, commit_is o.store d.drained) (sym (fits_held (capacity a.log) (insert_all o.store (rows_of d.drained.logged)) d.drained.waiting)) in
-          j.is time o.store _ _ (read_stored a o.store o.reads) authors-told ∙ rw (d.refers.waiting_are, g)
+          rw (logged_rows_lem, commit_is o.store d.drained) (sym (fits_held (capacity a.log) (insert_all o.store (rows_of d.drained.logged)) d.drained.waiting)) in
+          j.is time o.store _ _ (read_stored a o.store o.reads) authors_told ∙ rw (d.refers.waiting_are, g)
 
-      merge-is : merge (capacity a.log) l time o.store o.taken.rows
+      merge_is : merge (capacity a.log) l time o.store o.taken.rows
           ≡ finish (capacity a.log) l o.store (unexpired (time - l.max_pending_age) o.store.held) d.admitted d.drained
       unfolding merge
-      merge-is = rw (o.taken.valid, admits, settles)
+      merge_is = rw (o.taken.valid, admits, settles)
 
-      pub not-passed : (r : Refusal) → answer ≡ refused r → Merges a l time batch t (decision.Refused r)
-      not-passed r e =
+      pub not_passed : (r : Refusal) → answer ≡ refused r → Merges a l time batch t (decision.Refused r)
+      not_passed r e =
           Merges.is_refused {r = r} o.store o.taken.rows o.reads o.taken.brings
-          (merge-is ∙ finish_refused (capacity a.log) l o.store _ d.admitted d.drained r (sym told ∙ e))
+          (merge_is ∙ finish_refused (capacity a.log) l o.store _ d.admitted d.drained r (sym told ∙ e))
 
       module _ (e : answer ≡ done nothing) (now : time < 2 ^ 64) (bytes : AllBytes batch) where
         abbrev m : Merged
@@ -246,7 +246,7 @@ module _ (a : Areas) (l : Limits) (time : ℕ) (batch scratch starts : List ℕ)
         ends = finish_done (capacity a.log) l o.store _ d.admitted d.drained (sym told ∙ e)
 
         merges : merge (capacity a.log) l time o.store o.taken.rows ≡ done m
-        merges = merge-is ∙ ends.0
+        merges = merge_is ∙ ends.0
 
         after : Kept m.store
         after =
@@ -287,13 +287,13 @@ module _ (a : Areas) (l : Limits) (time : ℕ) (batch scratch starts : List ℕ)
           within = ends.1;
           refers =
               record {
-                waiting_are = sym (used-rows a.held u count e₀ opened_long batch time (column t 0 waiting) d.refers.waiting_refs) ∙ d.refers.waiting_are;
-                logged_are = sym (used-rows a.held u count e₀ opened_long batch time (column t 8 logged) d.refers.logged_refs) ∙ d.refers.logged_are;
-                waiting_refs = used-refs a.held u count e₀ opened_long batch (column t 0 waiting) d.refers.waiting_refs;
-                logged_refs = used-refs a.held u count e₀ opened_long batch (column t 8 logged) d.refers.logged_refs;
+                waiting_are = sym (used_rows a.held u count e₀ opened_long batch time (column t 0 waiting) d.refers.waiting_refs) ∙ d.refers.waiting_are;
+                logged_are = sym (used_rows a.held u count e₀ opened_long batch time (column t 8 logged) d.refers.logged_refs) ∙ d.refers.logged_are;
+                waiting_refs = used_refs a.held u count e₀ opened_long batch (column t 0 waiting) d.refers.waiting_refs;
+                logged_refs = used_refs a.held u count e₀ opened_long batch (column t 8 logged) d.refers.logged_refs;
               };
           rise =
-              slots-rise a.held u batch count e₀ opened_long (rw count_is p.ok.held.keys) time t waiting d.refers.waiting_refs
+              slots_rise a.held u batch count e₀ opened_long (rw count_is p.ok.held.keys) time t waiting d.refers.waiting_refs
               (rw d.refers.waiting_are (rw held_after at after.keys));
           few = omega (arith, after.held_few, ap length held_after, waiting_length);
           total = omega (arith, few, o.counts, o.taken.counted);

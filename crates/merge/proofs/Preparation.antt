@@ -116,9 +116,9 @@ module _ (a : Areas) (l : Limits) (time : ℕ) (batch scratch output starts : Li
       unfolding decode_store
       held_count = length_slots a.held 0 (get64 a.head 8)
 
-      pub prepared-by : 64 ≤ length starts → (r : Prepared) → TakesIn l time (get64 a.head 8) batch scratch output starts r
+      pub prepared_by_lem : 64 ≤ length starts → (r : Prepared) → TakesIn l time (get64 a.head 8) batch scratch output starts r
           → Prepares a l time batch scratch output starts r
-      prepared-by long (prepared.Ready n held) (TakesIn.is_ready first t at f) =
+      prepared_by_lem long (prepared.Ready n held) (TakesIn.is_ready first t at f) =
           Prepares.is_ready
           (record {
             within = h;
@@ -132,5 +132,5 @@ module _ (a : Areas) (l : Limits) (time : ℕ) (batch scratch output starts : Li
             room = room_scratch _ scratch output f;
           })
           f
-      prepared-by long (prepared.Refused r) (TakesIn.is_refused f) =
+      prepared_by_lem long (prepared.Refused r) (TakesIn.is_refused f) =
           Prepares.is_refused (answer_is (decode_store a) p.read ∙ f (capacity a.log) (decode_store a) held_count)

@@ -79,8 +79,8 @@ module _ (held u batch : List ℕ) (count : ℕ) (e : u ≡ take (704 * count) h
         work_at u batch time (column t 0 n) i (omega (arith, length_cells t 0 n)) ∙ rw q (work_held u batch k time h)
         ∙ ap decode_held (used_slot held u count e long k c) ∙ sym (slots_at_lem held 0 count k c ∙ ap (λ (x : ℕ). decode_held (slot_at held x)) z)
 
-    in-range : (i : ℕ) → i < n → get64 t (16 * i) < 64 → get64 t (16 * i) < count
-    in-range i l h =
+    in_range : (i : ℕ) → i < n → get64 t (16 * i) < 64 → get64 t (16 * i) < count
+    in_range i l h =
         let k : ℕ = get64 t (16 * i) in
         used_only held u count e long k (ok_held u batch k h (ref_there u batch t n i k (refs_of u batch (column t 0 n) refs) l refl))
 
@@ -90,8 +90,8 @@ module _ (held u batch : List ℕ) (count : ℕ) (e : u ≡ take (704 * count) h
         rw (← row_of i (omega arith) hi, ← row_of j m hj)
         (rise_at (work_rows u batch time (column t 0 n)) rise i j l (omega (arith, length_work u batch time (column t 0 n), length_cells t 0 n)))
 
-    pub slots-rise : SlotsRise t n
-    slots-rise = record {
+    pub slots_rise : SlotsRise t n
+    slots_rise = record {
       rise = λ i j l m hi hj.
           let p : ℕ = get64 t (16 * i) in
           let q : ℕ = get64 t (16 * j) in
@@ -100,7 +100,7 @@ module _ (held u batch : List ℕ) (count : ℕ) (e : u ≡ take (704 * count) h
             | inl o ↦ o
             | inr o ↦ elim (lt_or_le q p) [
               | inl b ↦ absurd (work_irrefl _ (work_trans _ _ _ lt
-                  (rise_at (slots_at held 0 count) held-rise q p b (omega (arith, length_slots held 0 count, in-range i (omega arith) hi)))))
+                  (rise_at (slots_at held 0 count) held-rise q p b (omega (arith, length_slots held 0 count, in_range i (omega arith) hi)))))
               | inr b ↦
                   let f : p ≡ q = omega arith in
                   absurd (work_irrefl _ (rw f at lt))

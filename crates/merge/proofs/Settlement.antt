@@ -49,8 +49,8 @@ module _ (held batch head s : List ℕ) (count : ℕ) (starts : List ℕ) (n : �
         (ad time first bs end a e).answer
         ∙ ap (λ hs. admit_all (entries (clock_at head 48)) time (starting hs) bs) (u batch time).rows_are
 
-    pub settle-refused : (f : Refusal) → r ≡ admitting.Refused f → Settles held batch head v count cutoff starts n (settled.Refused f)
-    settle-refused f e = Settles.is_refused (λ time first bs end a g. sym (answered time first bs end a g) ∙ ap (admitting_of held batch time v) e)
+    pub settle_refused : (f : Refusal) → r ≡ admitting.Refused f → Settles held batch head v count cutoff starts n (settled.Refused f)
+    settle_refused f e = Settles.is_refused (λ time first bs end a g. sym (answered time first bs end a g) ∙ ap (admitting_of held batch time v) e)
 
     module _ (working duplicates : ℕ) (e : r ≡ admitting.Entered working duplicates) where
       refs : (time first : ℕ) (bs : List BatchRow) (end : ℕ) → StartsAt batch starts first n → read_rows batch first n ≡ got bs end → Working held batch v working × (working ≤ kept + length bs)
@@ -63,12 +63,12 @@ module _ (held batch head s : List ℕ) (count : ℕ) (starts : List ℕ) (n : �
           let (w, l) = refs 0 b.first bs end b.starts_are g in
           (w, omega (arith, read_length batch n b.first bs end g))
 
-      pub drain-needs : Working held batch v working × (working ≤ 128) × (568 ≤ length head) × (sound (clock_at head 48) ≡ true)
-      drain-needs = (most.0, omega (arith, most.1, kept_few, needs.few, needs.rows_few), needs.long, needs.clock)
+      pub drain_needs : Working held batch v working × (working ≤ 128) × (568 ≤ length head) × (sound (clock_at head 48) ≡ true)
+      drain_needs = (most.0, omega (arith, most.1, kept_few, needs.few, needs.rows_few), needs.long, needs.clock)
 
-      pub settle-rows : (x : List ℕ) (d : Draining) → ((time : ℕ) → Drains (entries (clock_at head 48)) held batch time v x working d)
+      pub settle_rows : (x : List ℕ) (d : Draining) → ((time : ℕ) → Drains (entries (clock_at head 48)) held batch time v x working d)
           → Settles held batch head x count cutoff starts n (settled.Rows d.waiting d.logged (count - kept) duplicates d.dropped d.authors)
-      settle-rows x d dr =
+      settle_rows x d dr =
           Settles.are_rows (λ time first bs end a g.
           let q = dr time in
           let w : length (work_rows held batch time (column v 0 working)) ≡ working =

@@ -14,7 +14,7 @@ use Rattle.row.specs.Reading.{Head, unreadable, number, get_head, read_head, rea
 use Rattle.row.proofs.ReadRows.{readable}
 use Rattle.working.specs.Inside.References.{is_read}
 use Rattle.working.specs.Inside.Looks.{batch_row_at}
-use Rattle.working.proofs.ReferenceRows.{after_read, head-fields}
+use Rattle.working.proofs.ReferenceRows.{after_read, head_fields}
 
 -- what is read is not refused
 pub got_not_bad : {A : Type 0} {g : Got A} {a : A} {n : ℕ} {r : Refusal} → g ≡ got a n → g ≡ bad r → ⊥
@@ -64,41 +64,41 @@ module _ (s : List ℕ) (at : ℕ) where
       }
 
   module _ (t : is_read (read_row s at) ≡ true) where
-    pub stamp-read : StampRead s at (batch_row_at s at).stamp
+    pub stamp_read : StampRead s at (batch_row_at s at).stamp
     unfolding read_row
-    stamp-read =
+    stamp_read =
         let (head, next, e) = after_read (read_head s at) _ t in
-        rw (head-fields s at next head t e).0 (in_head head next e)
+        rw (head_fields s at next head t e).0 (in_head head next e)
 
-    pub no-wall : (r : Refusal) → number s at ≡ bad r → ⊥
-    no-wall r e = got_not_bad stamp-read.wall_is e
+    pub no_wall : (r : Refusal) → number s at ≡ bad r → ⊥
+    no_wall r e = got_not_bad stamp_read.wall_is e
 
     module _ (wall at₁ : ℕ) (e₁ : number s at ≡ got wall at₁) where
-      then₁ : stamp-read.at₁ ≡ at₁
-      then₁ = cc stamp-read.wall_is
+      then₁ : stamp_read.at₁ ≡ at₁
+      then₁ = cc stamp_read.wall_is
 
-      pub no-counter : (r : Refusal) → number s at₁ ≡ bad r → ⊥
-      no-counter r e = got_not_bad (rw then₁ at stamp-read.counter_is) e
+      pub no_counter : (r : Refusal) → number s at₁ ≡ bad r → ⊥
+      no_counter r e = got_not_bad (rw then₁ at stamp_read.counter_is) e
 
       module _ (counter at₂ : ℕ) (e₂ : number s at₁ ≡ got counter at₂) where
-        counts : number s at₁ ≡ got stamp-read.counter stamp-read.at₂
-        counts = rw then₁ at stamp-read.counter_is
+        counts : number s at₁ ≡ got stamp_read.counter stamp_read.at₂
+        counts = rw then₁ at stamp_read.counter_is
 
-        then₂ : stamp-read.at₂ ≡ at₂
+        then₂ : stamp_read.at₂ ≡ at₂
         then₂ = cc counts
 
-        same-counter : stamp-read.counter ≡ counter
-        same-counter = cc counts
+        same_counter : stamp_read.counter ≡ counter
+        same_counter = cc counts
 
-        pub no-stamper : (r : Refusal) → number s at₂ ≡ bad r → ⊥
-        no-stamper r e = got_not_bad (rw then₂ at stamp-read.stamper_is) e
+        pub no_stamper : (r : Refusal) → number s at₂ ≡ bad r → ⊥
+        no_stamper r e = got_not_bad (rw then₂ at stamp_read.stamper_is) e
 
         pub counter_fits : counter < 2 ^ 32
-        counter_fits = rw same-counter at stamp-read.fits
+        counter_fits = rw same_counter at stamp_read.fits
 
-        pub stamp-by-parts : (stamper at₃ : ℕ) → number s at₂ ≡ got stamper at₃ → stamp_by wall counter stamper ≡ (batch_row_at s at).stamp
-        stamp-by-parts stamper at₃ e₃ =
-            let w : stamp-read.wall ≡ wall = cc stamp-read.wall_is in
-            let k : number s at₂ ≡ got stamp-read.stamper stamp-read.at₃ = rw then₂ at stamp-read.stamper_is in
-            let p : stamp-read.stamper ≡ stamper = cc in
-            sym (stamp-read.stamp_is ∙ (λ i. stamp_by (w i) (same-counter i) (p i)))
+        pub stamp_by_parts : (stamper at₃ : ℕ) → number s at₂ ≡ got stamper at₃ → stamp_by wall counter stamper ≡ (batch_row_at s at).stamp
+        stamp_by_parts stamper at₃ e₃ =
+            let w : stamp_read.wall ≡ wall = cc stamp_read.wall_is in
+            let k : number s at₂ ≡ got stamp_read.stamper stamp_read.at₃ = rw then₂ at stamp_read.stamper_is in
+            let p : stamp_read.stamper ≡ stamper = cc in
+            sym (stamp_read.stamp_is ∙ (λ i. stamp_by (w i) (same_counter i) (p i)))

@@ -34,36 +34,36 @@ module _ (held u : List ℕ) (count : ℕ) (e : u ≡ take (704 * count) held) (
   ]
 
   module _ (batch : List ℕ) where
-    pub used-ref : (k : ℕ) → ref_ok u batch k ≡ true → ref_ok held batch k ≡ true
-    used-ref k h = elim (lt_or_le k 64) [
+    pub used_ref : (k : ℕ) → ref_ok u batch k ≡ true → ref_ok held batch k ≡ true
+    used_ref k h = elim (lt_or_le k 64) [
       | inl l ↦
           let o = ok_held u batch k l h in
           held_ok_lem held batch k l (rw (used_slot k (used_only k o)) at o)
       | inr l ↦ batch_ok held batch k l (ok_batch u batch k l h)
     ]
 
-    pub used-row : (time k : ℕ) → ref_ok u batch k ≡ true → work_row u batch time k ≡ work_row held batch time k
-    used-row time k h = elim (lt_or_le k 64) [
+    pub used_row : (time k : ℕ) → ref_ok u batch k ≡ true → work_row u batch time k ≡ work_row held batch time k
+    used_row time k h = elim (lt_or_le k 64) [
       | inl l ↦
           let o = ok_held u batch k l h in
           work_held u batch k time l ∙ ap decode_held (used_slot k (used_only k o)) ∙ sym (work_held held batch k time l)
       | inr l ↦ work_batch u batch k time l ∙ sym (work_batch held batch k time l)
     ]
 
-    refs-used : {ks : List ℕ} → Refs u batch ks → Refs held batch ks
-    refs-used Refs.none = Refs.none
-    refs-used (Refs.more o r) = Refs.more (used-ref _ o) (refs-used r)
+    refs_used : {ks : List ℕ} → Refs u batch ks → Refs held batch ks
+    refs_used Refs.none = Refs.none
+    refs_used (Refs.more o r) = Refs.more (used_ref _ o) (refs_used r)
 
-    pub used-refs : (ks : List ℕ) → refs_ok u batch ks ≡ true → refs_ok held batch ks ≡ true
-    used-refs ks h = of_refs (refs-used (refs_of u batch ks h))
+    pub used_refs : (ks : List ℕ) → refs_ok u batch ks ≡ true → refs_ok held batch ks ≡ true
+    used_refs ks h = of_refs (refs_used (refs_of u batch ks h))
 
-    rows-used : (time : ℕ) {ks : List ℕ} → Refs u batch ks → work_rows u batch time ks ≡ work_rows held batch time ks
+    rows_used : (time : ℕ) {ks : List ℕ} → Refs u batch ks → work_rows u batch time ks ≡ work_rows held batch time ks
     unfolding work_rows
-    rows-used time Refs.none = refl
-    rows-used time (Refs.more o r) = rw (used-row time _ o, rows-used time r)
+    rows_used time Refs.none = refl
+    rows_used time (Refs.more o r) = rw (used_row time _ o, rows_used time r)
 
-    pub used-rows : (time : ℕ) (ks : List ℕ) → refs_ok u batch ks ≡ true → work_rows u batch time ks ≡ work_rows held batch time ks
-    used-rows time ks h = rows-used time (refs_of u batch ks h)
+    pub used_rows : (time : ℕ) (ks : List ℕ) → refs_ok u batch ks ≡ true → work_rows u batch time ks ≡ work_rows held batch time ks
+    used_rows time ks h = rows_used time (refs_of u batch ks h)
 
   slots_used : (n at : ℕ) → at + n ≤ count → slots_at u (704 * at) n ≡ slots_at held (704 * at) n
   unfolding slots_at

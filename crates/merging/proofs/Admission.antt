@@ -88,12 +88,12 @@ module _ (clock : List (ℕ × ℕ)) (time : ℕ) where
       elim (leb b.row.seq (get clock b.row.author)) as
       (λ t. (r : Admitted) × (pick t (done (duplicate a)) (when_known (look b.row a.working) time b a) ≡ done r)) [
         | true ↦ (duplicate a, refl)
-        | false ↦ by-known (look b.row a.working) (looked b.row a.working)
+        | false ↦ by_known (look b.row a.working) (looked b.row a.working)
       ]
     where
-      by-known : (k : Known) → Looked b.row a.working k → (r : Admitted) × (when_known k time b a ≡ done r)
-      by-known absent (unseen f) = (_, refl)
-      by-known (present h) (seen m p q) = (duplicate a, rw (same h m p q))
+      by_known : (k : Known) → Looked b.row a.working k → (r : Admitted) × (when_known k time b a ≡ done r)
+      by_known absent (unseen f) = (_, refl)
+      by_known (present h) (seen m p q) = (duplicate a, rw (same h m p q))
 
   -- what holds of the rows admitted so far and the working rows, and is kept by each row, holds of the whole batch
   module _ (P : List Row → List HeldRow → Type 0) (all : List BatchRow)

@@ -34,25 +34,25 @@ use Rattle.merging.proofs.StoreRuns.{accepting, Run}
 module _ (a : Areas) (s : Store) (holds : read_store a ≡ done s) where
   -- after an accepted batch the merged store keeps the rules and fits
   module _ (c : BatchCall) (m : Merged) (now : c.time < 2 ^ 64) (bytes : AllBytes c.batch) (w : Answered a c m) where
-    pub merges-here : merge (capacity a.log) c.limits c.time s w.rows ≡ done m
-    merges-here =
+    pub merges_here : merge (capacity a.log) c.limits c.time s w.rows ≡ done m
+    merges_here =
         let p : w.store ≡ s = cc w.reads in
         rw p at w.merges
 
-    batch-rules : rules m.store ≡ true
-    batch-rules = merge_rules _ c.limits c.time s w.rows m merges-here w.limits now (brought c.batch bytes w.rows w.brings) (read_rules a s holds)
+    batch_rules : rules m.store ≡ true
+    batch_rules = merge_rules _ c.limits c.time s w.rows m merges_here w.limits now (brought c.batch bytes w.rows w.brings) (read_rules a s holds)
 
-    batch-few : length m.store.log ≤ capacity a.log
-    batch-few =
-        let within = merge_went _ c.limits c.time s w.rows m merges-here in
+    batch_few : length m.store.log ≤ capacity a.log
+    batch_few =
+        let within = merge_went _ c.limits c.time s w.rows m merges_here in
         rw within.store within.within.log
 
     -- so they hold it, with room for as many rows
-    pub batch-holds : read_store (write_store a m.store) ≡ done m.store
-    batch-holds = read_write a m.store (read_long a s holds) batch-rules batch-few
+    pub batch_holds : read_store (write_store a m.store) ≡ done m.store
+    batch_holds = read_write a m.store (read_long a s holds) batch_rules batch_few
 
-    pub batch-room : capacity (write_store a m.store).log ≡ capacity a.log
-    batch-room = capacity_write a m.store (read_long a s holds) batch-rules batch-few
+    pub batch_room : capacity (write_store a m.store).log ≡ capacity a.log
+    batch_room = capacity_write a m.store (read_long a s holds) batch_rules batch_few
 
   -- after a floor setting they hold the store with its floor alone changed: log, clock and held rows stay
   pub floor_holds : (t : Timestamp) → stamp_ok t ≡ true → read_store (set_floor_call a t).left ≡ done (with_floor s t)
@@ -65,22 +65,22 @@ module _ (a : Areas) (s : Store) (holds : read_store a ≡ done s) where
 
   -- after an accepted sealing the store with the row inserted keeps the rules and fits
   module _ (bytes signature : List ℕ) (t : Store) (all : AllBytes bytes) (signs : AllBytes signature) (w : SealAnswered a bytes signature t) where
-    seals-here : Seals (capacity a.log) s w.row t
-    seals-here =
+    seals_here : Seals (capacity a.log) s w.row t
+    seals_here =
         let p : w.store ≡ s = cc w.reads in
         row_sealed (capacity a.log) s w.row t (rw p at w.seals)
 
-    seal-rules : rules (insert s w.row) ≡ true
+    seal_rules : rules (insert s w.row) ≡ true
     unfolding insert
-    seal-rules =
+    seal_rules =
         insert_rules s w.row (read_rules a s holds) (sealed_ok bytes signature all signs w.row w.brings)
-        seals-here.within.clock seals-here.within.marks
+        seals_here.within.clock seals_here.within.marks
 
-    pub seal-holds : read_store (write_store a t) ≡ done t
-    seal-holds = rw (← seals-here.store) (read_write a (insert s w.row) (read_long a s holds) seal-rules seals-here.within.log)
+    pub seal_holds : read_store (write_store a t) ≡ done t
+    seal_holds = rw (← seals_here.store) (read_write a (insert s w.row) (read_long a s holds) seal_rules seals_here.within.log)
 
-    pub seal-room : capacity (write_store a t).log ≡ capacity a.log
-    seal-room = rw (← seals-here.store) (capacity_write a (insert s w.row) (read_long a s holds) seal-rules seals-here.within.log)
+    pub seal_room : capacity (write_store a t).log ≡ capacity a.log
+    seal_room = rw (← seals_here.store) (capacity_write a (insert s w.row) (read_long a s holds) seal_rules seals_here.within.log)
 
 -- ---- the areas after every list of calls
 
@@ -104,7 +104,7 @@ module _ (a : Areas) (o : List Row) (t : List Accepted) (r : Reaches a o t) wher
       rw w.brings
       (record {
         store = m.store;
-        holds = batch-holds a r.store h c m now bytes w;
+        holds = batch_holds a r.store h c m now bytes w;
         run = Run.batch _ c.limits c.time w.rows m (rw p at w.merges) r.run;
       })
 
@@ -117,13 +117,13 @@ module _ (a : Areas) (o : List Row) (t : List Accepted) (r : Reaches a o t) wher
   after_seal bytes signature all signs may (done (nothing, s)) e =
       let h : read_store a ≡ done r.store = r.holds in
       let w = seal_answered a bytes signature nothing s e in
-      let seals = seals-here a r.store h bytes signature s all signs w in
+      let seals = seals_here a r.store h bytes signature s all signs w in
       let own = may w.row (ap (λ (x : Answer (Unit × Store)). (leave a x).answer) e) w.brings in
       let p : w.store ≡ r.store = cc w.reads in
       rw w.brings
       (record {
         store = s;
-        holds = seal-holds a r.store h bytes signature s all signs w;
+        holds = seal_holds a r.store h bytes signature s all signs w;
         run =
             Run.seal _ w.row s (rw p at w.seals) (own_next w.row own r.store h seals.causes)
             (record {

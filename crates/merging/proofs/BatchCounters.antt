@@ -20,7 +20,7 @@ use Rattle.merging.specs.Calls.{BatchCall, batch_answer}
 use Rattle.merging.specs.Delta.{stamps_read}
 use Rattle.merging.specs.Trace.{Answered}
 use Rattle.merging.proofs.Traces.{unless_done, each_passes, merge_went, call_answered}
-use Rattle.merging.proofs.BatchRows.{batch-has}
+use Rattle.merging.proofs.BatchRows.{batch_has}
 
 abbrev counter : BatchRow → ℕ
 counter b = b.row.stamp.logical_counter
@@ -56,6 +56,6 @@ counters_below a c m e t n =
     let w : Answered a c m = call_answered a c m e in
     let v = merge_went _ c.limits c.time w.store w.rows m w.merges in
     let (b, k, q) = Memᴰ.of_map (λ b. b.row.stamp) w.rows (rw w.brings at n) in
-    let fits = batch-has c.batch (λ b. counter b < 2 ^ 32) (row_fits c.batch) w.rows w.brings b k in
+    let fits = batch_has c.batch (λ b. counter b < 2 ^ 32) (row_fits c.batch) w.rows w.brings b k in
     let unspent = row_unspent c.limits c.time b (each_passes c.limits c.time w.rows v.valid b k).1 in
     rw (← q) (omega (arith, fits, unspent))

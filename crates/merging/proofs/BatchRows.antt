@@ -40,19 +40,19 @@ module _ (s : List ℕ) where
 
   -- what holds of every row that can be read holds of each row of a batch
   module _ (P : BatchRow → Type 0) (holds : (at : ℕ) (b : BatchRow) (next : ℕ) → read_row s at ≡ got b next → P b) where
-    rows-have : (n at : ℕ) (rows : List BatchRow) (next : ℕ) → read_rows s at n ≡ got rows next → (b : BatchRow) → Memᴰ b rows → P b
+    rows_have : (n at : ℕ) (rows : List BatchRow) (next : ℕ) → read_rows s at n ≡ got rows next → (b : BatchRow) → Memᴰ b rows → P b
     unfolding read_rows
-    rows-have zero at rows next e b m =
+    rows_have zero at rows next e b m =
         let p : rows ≡ [] = cc in
         absurd (Memᴰ.not-nil (rw p at m))
-    rows-have (suc n) at rows next e b m =
+    rows_have (suc n) at rows next e b m =
         let (row, at₁, e₁, e₂) = after_got (read_row s at) _ e in
         let (rest, at₂, e₃, e₄) = after_got (read_rows s at₁ n) _ e₂ in
         let p : rows ≡ row ∷ rest = cc in
-        elim (Memᴰ.cases_cons (rw p at m)) [ inl q ↦ rw q (holds at row at₁ e₁) | inr k ↦ rows-have n at₁ rest at₂ e₃ b k ]
+        elim (Memᴰ.cases_cons (rw p at m)) [ inl q ↦ rw q (holds at row at₁ e₁) | inr k ↦ rows_have n at₁ rest at₂ e₃ b k ]
 
-    pub batch-has : (rows : List BatchRow) → read_batch s ≡ done rows → (b : BatchRow) → Memᴰ b rows → P b
-    batch-has rows e = let (first, f, g) = batch_got rows e in rows-have (length rows) first rows (length s) g
+    pub batch_has : (rows : List BatchRow) → read_batch s ≡ done rows → (b : BatchRow) → Memᴰ b rows → P b
+    batch_has rows e = let (first, f, g) = batch_got rows e in rows_have (length rows) first rows (length s) g
 
 pub brought : (s : List ℕ) → AllBytes s → (rows : List BatchRow) → read_batch s ≡ done rows → Brings rows
-brought s bytes = batch-has s _ (λ at b next e. let k = read_row_ok s bytes at b next e in (k.row, k.outcome))
+brought s bytes = batch_has s _ (λ at b next e. let k = read_row_ok s bytes at b next e in (k.row, k.outcome))

@@ -26,7 +26,7 @@ use Rattle.merging.specs.Offers.{Call, AllGiven, after_call, run_calls, rows_rea
 use Rattle.merging.proofs.Traces.{call_answered, ends_by}
 use Rattle.merging.proofs.StoreRuns.{accepting}
 use Rattle.merging.proofs.Sealings.{seal_answered}
-use Rattle.merging.proofs.AreasToStores.{batch-holds, batch-room, floor_holds, floor_room, seal-holds, seal-room}
+use Rattle.merging.proofs.AreasToStores.{batch_holds, batch_room, floor_holds, floor_room, seal_holds, seal_room}
 
 -- a batch call's answer on a store, in whose log there is room for cap rows
 unfoldable pub answer_on : ℕ → Store → BatchCall → Answer Merged
@@ -116,10 +116,10 @@ module _ (cap : ℕ) (cs : List Call)
       }
   by_answer (done m) e =
       let w = call_answered a c m e in
-      let t = rest _ m.store (batch-holds a s h c m now bytes w) (batch-room a s h c m now bytes w ∙ room) in
+      let t = rest _ m.store (batch_holds a s h c m now bytes w) (batch_room a s h c m now bytes w ∙ room) in
       record {
         holds = rw (after_is _ e) t.holds;
-        room = room_after cs (after_is _ e) ∙ t.room ∙ batch-room a s h c m now bytes w;
+        room = room_after cs (after_is _ e) ∙ t.room ∙ batch_room a s h c m now bytes w;
         offers = rw (offered_is _ e, after_is _ e) (ap (λ (rows : List Row). rows_read (read_batch c.batch) ++ rows) t.offers);
         accepts = rw (accepted_is _ e, after_is _ e) (ap (λ (xs : List Accepted). accepting c.time c.limits ∷ xs) t.accepts);
       }
@@ -132,11 +132,11 @@ is_accepted (refused r) = false
 pub accepted_on : (cap : ℕ) (s : Store) (j : HybridClock) (c : BatchCall) → is_accepted (answer_on cap s c) ≡ true
     → (a : Areas) → read_store a ≡ done s → capacity a.log ≡ cap → (x : DeltaReport) × ((delta_call a j c).answer ≡ done x)
 unfolding is_accepted batch_call batch_ends delta_call delta_ends
-accepted_on cap s j c t a h room = by-test (batch_answer a c) (ap is_accepted (rw room at (answer_on_lem a s h c)) ∙ t)
+accepted_on cap s j c t a h room = by_test (batch_answer a c) (ap is_accepted (rw room at (answer_on_lem a s h c)) ∙ t)
   where
-    by-test : (x : Answer Merged) → is_accepted x ≡ true → (y : DeltaReport) × ((ends_by a j c x).answer ≡ done y)
-    by-test (done m) t = (_, refl)
-    by-test (refused r) t = absurd (clash t refl)
+    by_test : (x : Answer Merged) → is_accepted x ≡ true → (y : DeltaReport) × ((ends_by a j c x).answer ≡ done y)
+    by_test (done m) t = (_, refl)
+    by_test (refused r) t = absurd (clash t refl)
 
 seal_on_lem : (a : Areas) (s : Store) → read_store a ≡ done s → (bytes signature : List ℕ)
     → seal_answer a bytes signature ≡ seal_on (capacity a.log) s bytes signature
@@ -173,8 +173,8 @@ module _ (cap : ℕ) (cs : List Call)
       }
   by_seal (done (nothing, u)) e =
       let w = seal_answered a bytes signature nothing u e in
-      let left = seal-room a s h bytes signature u all signs w in
-      let t = rest _ u (seal-holds a s h bytes signature u all signs w) (left ∙ room) in
+      let left = seal_room a s h bytes signature u all signs w in
+      let t = rest _ u (seal_holds a s h bytes signature u all signs w) (left ∙ room) in
       record {
         holds = rw (sealed_after _ e) t.holds;
         room = room_after cs (sealed_after _ e) ∙ t.room ∙ left;

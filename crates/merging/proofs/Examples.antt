@@ -166,7 +166,7 @@ unfolding reading
 overlong_counter = refl
 
 -- and before 4: a count of 65, written as C1 00
-overlong_count : read_batch (0x_c1 ∷ 0 ∷ []) ≡ refused Unreadable
+overlong_count : read_batch (0xC1 ∷ 0 ∷ []) ≡ refused Unreadable
 unfolding reading
 overlong_count = refl
 

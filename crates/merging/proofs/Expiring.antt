@@ -26,16 +26,16 @@ use Rattle.merging.specs.Delta.{DeltaReport, delta_ends, delta_call}
 use Rattle.merging.specs.Offers.{Call, Given, after_call, run_calls, batch_rows, rows_read, offered_by, offered, Accepted, accepted, Spans, OneContent, Within, log_less, Follows, Agree}
 use Rattle.merging.specs.Expiring.{AtAnyTimes, CarriesMissing, Equals, CatchesUp, Ticket13, AsWritten, Ticket13AsWritten, EnoughToSend, CatchUpAccepted, ClocksTell}
 use Rattle.merging.proofs.Traces.{not_refused, done_same, insert_held, merge_went, merge_goes, call_answered, answers_merge, ends_by}
-use Rattle.merging.proofs.SortedLists.{sorted-sublist, sorted-unique}
+use Rattle.merging.proofs.SortedLists.{sorted_sublist, sorted_unique}
 use Rattle.merging.proofs.RowOrders.{log_trans, log_irrefl}
 use Rattle.merging.proofs.CausalListings.{listed_offered, listed_until}
 use Rattle.merging.proofs.RowLists.{unexpired_rows, sorted_unexpired, same_quotas}
-use Rattle.merging.proofs.Invariant.{AllValid, Inv, weaker, listed_low, low-listed, all-admitted}
+use Rattle.merging.proofs.Invariant.{AllValid, Inv, weaker, listed_low, low_listed, all_admitted}
 use Rattle.merging.proofs.Sealings.{row_sealed}
 use Rattle.merging.proofs.StoreRuns.{Run, start, batch, floor, seal, Ended, valid_offers, ended_start, batch_row_lem, more_offers, ended_settled, ended_batch, keeps_seal, one_part, good}
 use Rattle.merging.proofs.StoreAgreement.{follows, agree}
 use Rattle.merging.proofs.Watermarks.{Marked, marks_many, settle_marked, run_marked}
-use Rattle.merging.proofs.AreasToStores.{Reaches, merges-here, batch-holds}
+use Rattle.merging.proofs.AreasToStores.{Reaches, merges_here, batch_holds}
 use Rattle.merging.proofs.Convergence.{reached}
 
 -- ---- every run, at any times
@@ -87,7 +87,7 @@ module _ {o₁ o₂ : List Row} {s₁ s₂ : Store} (L : Loose o₁ s₁) (E : E
   logged_too r m = (f₂.logged r).1 (listed_until i₁.listing r (i₁.log_listed r m))
 
   part_of : Sublistᴰ s₁.log s₂.log
-  part_of = sorted-sublist log_less log_trans log_irrefl s₁.log s₂.log i₁.log_sorted f₂.log_order logged_too
+  part_of = sorted_sublist log_less log_trans log_irrefl s₁.log s₂.log i₁.log_sorted f₂.log_order logged_too
 
   -- the second's logged rows above the first's clock, and those that it holds, are all that the first has not logged
   enough : {rows : List Row}
@@ -100,7 +100,7 @@ module _ {o₁ o₂ : List Row} {s₁ s₂ : Store} (L : Loose o₁ s₁) (E : E
             E.inv.listed_log r k,
             elim (lt_or_le (get s₁.clock r.author) r.seq) [
               | inl q ↦ q
-              | inr q ↦ absurd (new (i₁.listed_log r (low-listed o₂ one valid i₁ r m q)))
+              | inr q ↦ absurd (new (i₁.listed_log r (low_listed o₂ one valid i₁ r m q)))
             ],
           )
           | inr k ↦ inr k
@@ -113,23 +113,23 @@ module _ {o₁ o₂ : List Row} {s₁ s₂ : Store} (L : Loose o₁ s₁) (E : E
 
   module _ (rows : List BatchRow) (c : CarriesMissing o₂ s₁.log (batch_rows rows)) where
     -- an offered row is listed, or the batch brings it
-    listed-or-brought : (y : Row) → Memᴰ y o₂ → Memᴰ y L.listing ⊎ Memᴰ y (batch_rows rows)
-    listed-or-brought y m = elim (lt_or_le (get s₁.clock y.author) y.seq) [
+    listed_or_brought : (y : Row) → Memᴰ y o₂ → Memᴰ y L.listing ⊎ Memᴰ y (batch_rows rows)
+    listed_or_brought y m = elim (lt_or_le (get s₁.clock y.author) y.seq) [
       | inl h ↦ inr (c.every y m (λ k. omega (arith, listed_low i₁ y (i₁.log_listed y k))))
-      | inr h ↦ inl (low-listed o₂ one valid i₁ y m h)
+      | inr h ↦ inl (low_listed o₂ one valid i₁ y m h)
     ]
 
     before : (l : Limits) (time : ℕ) → Inv o₂ L.listing s₁.clock L.listing s₁.log (rows_of (staying l time s₁))
     before l time = more_offers w (unexpired_inv L l time)
 
     -- so after the batch the first has all that was offered to the second
-    ended-caught-up : (l : Limits) (time : ℕ) (a : Admitted) → admit_all s₁.clock time (starting (staying l time s₁)) rows ≡ done a
+    ended_caught_up : (l : Limits) (time : ℕ) (a : Admitted) → admit_all s₁.clock time (starting (staying l time s₁)) rows ≡ done a
         → Ended o₂ o₂ (commit s₁ (settle s₁ a))
-    ended-caught-up l time a e =
+    ended_caught_up l time a e =
         let E = ended_settled {p = L.listing} one valid s₁ l time rows c.no_other L.listing (before l time) a e in
         record {
           listing = E.listing;
-          inv = admitting (λ y k. elim (listed-or-brought y k) [
+          inv = admitting (λ y k. elim (listed_or_brought y k) [
             | inl q ↦ E.inv.all y (Memᴰ.append_left (batch_rows rows) q)
             | inr q ↦ E.inv.all y (Memᴰ.append_right L.listing q)
           ]) E.inv;
@@ -137,10 +137,10 @@ module _ {o₁ o₂ : List Row} {s₁ s₂ : Store} (L : Loose o₁ s₁) (E : E
         }
 
     -- and the two agree
-    agree-caught-up : (l : Limits) (time : ℕ) (a : Admitted) → admit_all s₁.clock time (starting (staying l time s₁)) rows ≡ done a
+    agree_caught_up : (l : Limits) (time : ℕ) (a : Admitted) → admit_all s₁.clock time (starting (staying l time s₁)) rows ≡ done a
         → Agree o₂ o₂ (commit s₁ (settle s₁ a)) s₂
-    agree-caught-up l time a e =
-        let E₁ = ended-caught-up l time a e in
+    agree_caught_up l time a e =
+        let E₁ = ended_caught_up l time a e in
         agree o₂ o₂ (commit s₁ (settle s₁ a)) s₂ E₁.inv.rises E.inv.rises (follows o₂ (commit s₁ (settle s₁ a)) E₁) f₂
 
     -- within the quotas, and where there is room, it is accepted
@@ -148,8 +148,8 @@ module _ {o₁ o₂ : List Row} {s₁ s₂ : Store} (L : Loose o₁ s₁) (E : E
         → length s₂.log ≤ cap → length s₂.clock ≤ 32 → Marked s₁ → (m : Merged) × (merge cap l time s₁ rows ≡ done m)
     unfolding commit
     merges l time cap passes quota few authors marked =
-        let (a, e) = all-admitted o₂ one valid s₁.clock time L.listing s₁.log rows (λ b k. c.no_other b.row (batch_row_lem rows b k)) L.listing _ (before l time) in
-        let same = agree-caught-up l time a e in
+        let (a, e) = all_admitted o₂ one valid s₁.clock time L.listing s₁.log rows (λ b k. c.no_other b.row (batch_row_lem rows b k)) L.listing _ (before l time) in
+        let same = agree_caught_up l time a e in
         let log : (commit s₁ (settle s₁ a)).log ≡ s₂.log = same.same_log (λ r k. k) (λ r k. k) in
         let clock : (commit s₁ (settle s₁ a)).clock ≡ s₂.clock = same.same_clock (λ r k. k) (λ r k. k) in
         let held : rows_of (settle s₁ a).waiting ≡ rows_of s₂.held =
@@ -160,17 +160,17 @@ module _ {o₁ o₂ : List Row} {s₁ s₂ : Store} (L : Loose o₁ s₁) (E : E
 
   module _ (a : Areas) (holds : read_store a ≡ done s₁) (j : HybridClock) (c : BatchCall) (now : c.time < 2 ^ 64) (bytes : AllBytes c.batch)
       (x : DeltaReport) (brings : CarriesMissing o₂ s₁.log (rows_read (read_batch c.batch))) where
-    equal-after : (y : Answer Merged) → batch_answer a c ≡ y → (ends_by a j c y).answer ≡ done x → Equals (ends_by a j c y).left.lent.areas s₂
+    equal_after : (y : Answer Merged) → batch_answer a c ≡ y → (ends_by a j c y).answer ≡ done x → Equals (ends_by a j c y).left.lent.areas s₂
     unfolding batch_ends delta_ends
-    equal-after (refused r) e q = absurd (not_refused q)
-    equal-after (done m) e q =
+    equal_after (refused r) e q = absurd (not_refused q)
+    equal_after (done m) e q =
         let v = call_answered a c m e in
-        let went = merge_went _ c.limits c.time s₁ v.rows m (merges-here a s₁ holds c m now bytes v) in
+        let went = merge_went _ c.limits c.time s₁ v.rows m (merges_here a s₁ holds c m now bytes v) in
         let same : Agree o₂ o₂ m.store s₂ =
-        rw went.store (agree-caught-up v.rows (rw v.brings at brings) c.limits c.time went.admitted went.admits) in
+        rw went.store (agree_caught_up v.rows (rw v.brings at brings) c.limits c.time went.admitted went.admits) in
         record {
           store = m.store;
-          holds = batch-holds a s₁ holds c m now bytes v;
+          holds = batch_holds a s₁ holds c m now bytes v;
           log = same.same_log (λ r k. k) (λ r k. k);
           clock = same.same_clock (λ r k. k) (λ r k. k);
           held = same.same_held (λ r k. k) (λ r k. k);
@@ -224,51 +224,51 @@ module _ (a₁ a₂ : Areas) (cs₁ cs₂ : List Call) (h : AtAnyTimes a₁ a₂
     ended_at : (s₂ : Store) → read_store (run_calls a₂ cs₂) ≡ done s₂ → Ended (offered a₂ cs₂) (offered a₂ cs₂) s₂
     ended_at s₂ reads = rw (done_same (sym r₂.holds ∙ reads)) at ended₂
 
-    part-here : Within (offered a₁ cs₁) (offered a₂ cs₂) → Sublistᴰ r₁.store.log r₂.store.log
-    part-here w = part_of loose₁ ended₂ one₂ (valid_offers r₂.run) w
+    part_here : Within (offered a₁ cs₁) (offered a₂ cs₂) → Sublistᴰ r₁.store.log r₂.store.log
+    part_here w = part_of loose₁ ended₂ one₂ (valid_offers r₂.run) w
 
-    equal-here : Within (offered a₁ cs₁) (offered a₂ cs₂)
+    equal_here : Within (offered a₁ cs₁) (offered a₂ cs₂)
         → (j : HybridClock) (c : BatchCall) (x : DeltaReport) → Given (Call.batch j c) → (delta_call (run_calls a₁ cs₁) j c).answer ≡ done x
         → CarriesMissing (offered a₂ cs₂) r₁.store.log (rows_read (read_batch c.batch))
         → Equals (after_call (run_calls a₁ cs₁) (Call.batch j c)) r₂.store
     unfolding after_call delta_call batch_call
-    equal-here w j c x given e brings =
-        equal-after loose₁ ended₂ one₂ (valid_offers r₂.run) w (run_calls a₁ cs₁) r₁.holds j c given.0 given.1 x brings
+    equal_here w j c x given e brings =
+        equal_after loose₁ ended₂ one₂ (valid_offers r₂.run) w (run_calls a₁ cs₁) r₁.holds j c given.0 given.1 x brings
         (batch_answer (run_calls a₁ cs₁) c) refl e
 
-    catches-up : Within (offered a₁ cs₁) (offered a₂ cs₂) → CatchesUp a₁ a₂ cs₁ cs₂
-    catches-up w =
+    catches_up : Within (offered a₁ cs₁) (offered a₂ cs₂) → CatchesUp a₁ a₂ cs₁ cs₂
+    catches_up w =
         record {
           store₁ = r₁.store;
           store₂ = r₂.store;
           holds₁ = r₁.holds;
           holds₂ = r₂.holds;
-          part = part-here w;
-          caught_up = equal-here w;
+          part = part_here w;
+          caught_up = equal_here w;
         }
 
     -- where the batch that catches up is among the offers, so are its rows
-    in-its-words : AsWritten a₁ a₂ cs₁ cs₂
-    in-its-words =
+    in_its_words : AsWritten a₁ a₂ cs₁ cs₂
+    in_its_words =
         record {
           store₁ = r₁.store;
           store₂ = r₂.store;
           holds₁ = r₁.holds;
           holds₂ = r₂.holds;
-          part = λ same. part-here same.0;
+          part = λ same. part_here same.0;
           caught_up =
               λ j c x given e same every.
               let w = rw (accepted_offers a₁ cs₁ j c x e) at same.0 in
               rw (runs_last a₁ cs₁ (Call.batch j c))
-              (equal-here (λ y m. w y (Memᴰ.append_left (rows_read (read_batch c.batch)) m)) j c x given e
+              (equal_here (λ y m. w y (Memᴰ.append_left (rows_read (read_batch c.batch)) m)) j c x given e
               (record { every = every; no_other = λ y m. w y (Memᴰ.append_right (offered a₁ cs₁) m) }));
         }
 
 pub catching_up : Ticket13
-catching_up a₁ a₂ cs₁ cs₂ h spans w = catches-up a₁ a₂ cs₁ cs₂ h spans w
+catching_up a₁ a₂ cs₁ cs₂ h spans w = catches_up a₁ a₂ cs₁ cs₂ h spans w
 
 pub as_written : Ticket13AsWritten
-as_written a₁ a₂ cs₁ cs₂ h spans = in-its-words a₁ a₂ cs₁ cs₂ h spans
+as_written a₁ a₂ cs₁ cs₂ h spans = in_its_words a₁ a₂ cs₁ cs₂ h spans
 
 -- ---- what a desk does that was away
 
@@ -290,7 +290,7 @@ module _ {o : List Row} (one : OneContent o) (valid : AllValid o) {p₁ p₂ : L
   logged_there : Within g₁ g₂
   logged_there r m =
       let k = i₁.log_listed r m in
-      i₂.listed_log r (low-listed o one valid i₂ r (listed_offered i₁.listing r k) (rw same at (listed_low i₁ r k)))
+      i₂.listed_log r (low_listed o one valid i₂ r (listed_offered i₁.listing r k) (rw same at (listed_low i₁ r k)))
 
 pub clocks_tell : ClocksTell
 clocks_tell a₁ a₂ cs₁ cs₂ h s₁ s₂ reads₁ reads₂ same =
@@ -302,5 +302,5 @@ clocks_tell a₁ a₂ cs₁ cs₂ h s₁ s₂ reads₁ reads₂ same =
     λ y m. elim (Memᴰ.append_cases (offered a₁ cs₁) m) [ inl k ↦ valid_offers q₁.run y k | inr k ↦ valid_offers q₂.run y k ] in
     let i₁ = more_offers (λ y m. Memᴰ.append_left (offered a₂ cs₂) m) L₁.inv in
     let i₂ = more_offers (λ y m. Memᴰ.append_right (offered a₁ cs₁) m) L₂.inv in
-    sorted-unique log_less log_trans log_irrefl s₁.log s₂.log i₁.log_sorted i₂.log_sorted
+    sorted_unique log_less log_trans log_irrefl s₁.log s₂.log i₁.log_sorted i₂.log_sorted
     (logged_there h.one_content_lem valid same i₁ i₂) (logged_there h.one_content_lem valid (sym same) i₂ i₁)

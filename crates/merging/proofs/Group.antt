@@ -28,7 +28,7 @@ use Rattle.merging.specs.Calls.{BatchCall, batch_answer, batch_ends, batch_call}
 use Rattle.merging.specs.Delta.{delta_ends, delta_call}
 use Rattle.merging.specs.Group.{empty_store, holding, lending, held_after, no_row, P}
 use Rattle.merging.proofs.Traces.{call_answered, ends_by}
-use Rattle.merging.proofs.AreasToStores.{batch-holds}
+use Rattle.merging.proofs.AreasToStores.{batch_holds}
 use Rattle.merging.proofs.Convergence.{empty_rules}
 use Rattle.merging.proofs.CallTraces.{answer_on, answer_on_lem}
 use Rattle.merging.proofs.Examples.{computing, reading}
@@ -72,7 +72,7 @@ module _ (s : Store) (keeps : rules s ≡ true) (few : length s.log ≤ 1) (j : 
     where
       by_answer : (x : Answer Merged) → batch_answer (lending s) c ≡ x
           → held_after (ends_by (lending s) j c x) ≡ and_then x (λ m. done (m.store.held, m.report.expired))
-      by_answer (done m) e = rw (batch-holds (lending s) s reads c m now bytes (call_answered (lending s) c m e))
+      by_answer (done m) e = rw (batch_holds (lending s) s reads c m now bytes (call_answered (lending s) c m e))
       by_answer (refused r) e = refl
 
 -- ---- the cases

@@ -90,19 +90,19 @@ count_insert a r g = rw (insert_place r g) (count_place (λ (x : Row). eqb x.aut
 module _ (o : List Row) (one : OneContent o) (valid : AllValid o) where
   module _ {p : List Row} {c : List (ℕ × ℕ)} {ls g w : List Row} (i : Inv o p c ls g w) where
     -- and an offered row at or below the clock is listed
-    pub low-listed : (x : Row) → Memᴰ x o → x.seq ≤ get c x.author → Memᴰ x ls
-    low-listed x m h =
+    pub low_listed : (x : Row) → Memᴰ x o → x.seq ≤ get c x.author → Memᴰ x ls
+    low_listed x m h =
         let (y, k, a, n) = listed_at i.listing x.author x.seq (omega (arith, (valid x m).first, count_none x.author)) (omega (arith, i.clock x.author)) in
         mathlib.Core.List.Memᴰ.cast (sym (one y x (listed_offered i.listing y k) m a n)) k
 
     -- a row is logged
     module _ {rest : List Row} (r : Row) (rd : ready c r ≡ true) (t : Taken r rest w) (e : r.seq ≡ suc (get c r.author)) where
-      new-in-listing : Memᴰ r ls → ⊥
-      new-in-listing m = omega (arith, listed_low i r m)
+      new_in_listing : Memᴰ r ls → ⊥
+      new_in_listing m = omega (arith, listed_low i r m)
 
       -- equal stamps are one author's, so the new row has the higher sequence
-      logged-before : (x : Row) → Memᴰ x g → older r x ≡ false → log_less r x ≡ true
-      logged-before x m f = elim (test (stamp_less r.stamp x.stamp)) [
+      logged_before : (x : Row) → Memᴰ x g → older r x ≡ false → log_less r x ≡ true
+      logged_before x m f = elim (test (stamp_less r.stamp x.stamp)) [
         | inl h ↦ log_below r x h
         | inr h ↦
             let s : r.stamp ≡ x.stamp = stamp_total r.stamp x.stamp h f in
@@ -112,8 +112,8 @@ module _ (o : List Row) (one : OneContent o) (valid : AllValid o) where
             log_level r x s (omega (arith, listed_low i x k, ap (get c) q))
       ]
 
-      clock-moves : (a : ℕ) → get (observe c r.author r.seq) a ≡ count a (ls ++ (r ∷ []))
-      clock-moves a = elim (test (eqb r.author a)) [
+      clock_moves : (a : ℕ) → get (observe c r.author r.seq) a ≡ count a (ls ++ (r ∷ []))
+      clock_moves a = elim (test (eqb r.author a)) [
         | inl h ↦
             let q : r.author ≡ a = eqb-true _ _ h in
             omega (arith, get_next c r.author r.seq e a q, count_last a ls r q, i.clock a, ap (get c) q)
@@ -122,8 +122,8 @@ module _ (o : List Row) (one : OneContent o) (valid : AllValid o) where
             omega (arith, get_others c r.author r.seq e a q, count_not_last a ls r q, i.clock a)
       ]
 
-      still-ahead : (y : Row) → Memᴰ y rest → count y.author (ls ++ (r ∷ [])) < y.seq
-      still-ahead y m =
+      still_ahead : (y : Row) → Memᴰ y rest → count y.author (ls ++ (r ∷ [])) < y.seq
+      still_ahead y m =
           let before : count y.author ls < y.seq = i.ahead y (taken_rest t y m) in
           elim (test (eqb r.author y.author)) [
             | inl h ↦
@@ -134,13 +134,13 @@ module _ (o : List Row) (one : OneContent o) (valid : AllValid o) where
             | inr h ↦ omega (arith, count_not_last y.author ls r (eqb-false _ _ h))
           ]
 
-      pub keeps-log : Inv o p (observe c r.author r.seq) (ls ++ (r ∷ [])) (insert_row r g) rest
-      keeps-log =
+      pub keeps_log : Inv o p (observe c r.author r.seq) (ls ++ (r ∷ [])) (insert_row r g) rest
+      keeps_log =
           record {
             listing =
-                listed_last r i.listing (i.held r (taken_self t)) new-in-listing (e ∙ ap suc (i.clock r.author))
+                listed_last r i.listing (i.held r (taken_self t)) new_in_listing (e ∙ ap suc (i.clock r.author))
                 (λ a n m. omega (arith, ready_deps c r rd a n m, i.clock a));
-            clock = clock-moves;
+            clock = clock_moves;
             rises = observe_rises r.author r.seq c i.rises;
             positive = rw (observe_put c r.author r.seq e) (positive_put c r.author r.seq (omega arith) i.positive);
             held = λ y m. i.held y (taken_rest t y m);
@@ -148,9 +148,9 @@ module _ (o : List Row) (one : OneContent o) (valid : AllValid o) where
               | inl k ↦ inl (last_old ls r k)
               | inr k ↦ elim (taken_cases t y k) [ inl q ↦ inl (mathlib.Core.List.Memᴰ.cast q (last_self ls r)) | inr q ↦ inr q ]
             ];
-            ahead = still-ahead;
+            ahead = still_ahead;
             held_sorted = taken_sorted work_less t i.held_sorted;
-            log_sorted = rw (insert_place r g) (place_sorted log_less log_trans (older r) r (λ x m f. log_below x r f) logged-before i.log_sorted);
+            log_sorted = rw (insert_place r g) (place_sorted log_less log_trans (older r) r (λ x m f. log_below x r f) logged_before i.log_sorted);
             log_listed = λ y m. elim (place_cases (older r) r g (rw (insert_place r g) at m)) [
               | inl q ↦ mathlib.Core.List.Memᴰ.cast q (last_self ls r)
               | inr k ↦ last_old ls r (i.log_listed y k)
@@ -163,21 +163,21 @@ module _ (o : List Row) (one : OneContent o) (valid : AllValid o) where
           }
 
     -- a ready row is its author's next, so that none is dropped
-    pub is-next : {rest : List Row} (r : Row) → ready c r ≡ true → Taken r rest w → r.seq ≡ suc (get c r.author)
-    is-next r rd t = omega (arith, ready_seq c r rd, i.ahead r (taken_self t), i.clock r.author)
+    pub is_next : {rest : List Row} (r : Row) → ready c r ≡ true → Taken r rest w → r.seq ≡ suc (get c r.author)
+    is_next r rd t = omega (arith, ready_seq c r rd, i.ahead r (taken_self t), i.clock r.author)
 
     -- a row that is there already is admitted
-    pub keeps-known : (r : Row) → Memᴰ r ls ⊎ Memᴰ r w → Inv o (p ++ (r ∷ [])) c ls g w
-    keeps-known r k =
+    pub keeps_known : (r : Row) → Memᴰ r ls ⊎ Memᴰ r w → Inv o (p ++ (r ∷ [])) c ls g w
+    keeps_known r k =
         weaker (λ y m. m) (λ y m. m) i.held_sorted (λ y m. elim (last_cases p r m) [
           | inl q ↦ elim k [ inl j ↦ inl (mathlib.Core.List.Memᴰ.cast q j) | inr j ↦ inr (mathlib.Core.List.Memᴰ.cast q j) ]
           | inr j ↦ i.all y j
         ]) i
 
     -- a new row is admitted
-    pub keeps-new : (r : Row) → Memᴰ r o → get c r.author < r.seq → ((y : Row) → Memᴰ y w → r.author ≡ y.author → r.seq ≡ y.seq → ⊥)
+    pub keeps_new : (r : Row) → Memᴰ r o → get c r.author < r.seq → ((y : Row) → Memᴰ y w → r.author ≡ y.author → r.seq ≡ y.seq → ⊥)
         → Inv o (p ++ (r ∷ [])) c ls g (place (goes_before r) r w)
-    keeps-new r ro h ne =
+    keeps_new r ro h ne =
         record {
           listing = i.listing;
           clock = i.clock;
@@ -199,28 +199,28 @@ module _ (o : List Row) (one : OneContent o) (valid : AllValid o) where
 
   -- a row of the batch is admitted
   module _ (c : List (ℕ × ℕ)) (time : ℕ) (ls g : List Row) where
-    keeps-admit : (p : List Row) (a : Admitted) (b : BatchRow) (r : Admitted) → Memᴰ b.row o → Admits c time a b r
+    keeps_admit : (p : List Row) (a : Admitted) (b : BatchRow) (r : Admitted) → Memᴰ b.row o → Admits c time a b r
         → Inv o p c ls g (rows_of a.working) → Inv o (p ++ (b.row ∷ [])) c ls g (rows_of r.working)
-    keeps-admit p a b r bo (old h) i = keeps-known i b.row (inl (low-listed i b.row bo (omega arith)))
-    keeps-admit p a b r bo (again {h = h} m e f s) i =
+    keeps_admit p a b r bo (old h) i = keeps_known i b.row (inl (low_listed i b.row bo (omega arith)))
+    keeps_admit p a b r bo (again {h = h} m e f s) i =
         let k : Memᴰ h.row (rows_of a.working) = rows_mem a.working m in
-        keeps-known i b.row (inr (mathlib.Core.List.Memᴰ.cast (one b.row h.row bo (i.held h.row k) e f) k))
-    keeps-admit p a b r bo (new h f) i = rw (enter_rows (arrived time b) a.working) (keeps-new i b.row bo h f)
+        keeps_known i b.row (inr (mathlib.Core.List.Memᴰ.cast (one b.row h.row bo (i.held h.row k) e f) k))
+    keeps_admit p a b r bo (new h f) i = rw (enter_rows (arrived time b) a.working) (keeps_new i b.row bo h f)
 
-    pub keeps-admits : (rows : List BatchRow) → ((b : BatchRow) → Memᴰ b rows → Memᴰ b.row o) → (p : List Row) (a r : Admitted)
+    pub keeps_admits : (rows : List BatchRow) → ((b : BatchRow) → Memᴰ b rows → Memᴰ b.row o) → (p : List Row) (a r : Admitted)
         → admit_all c time a rows ≡ done r → Inv o p c ls g (rows_of a.working) → Inv o (p ++ batch_rows rows) c ls g (rows_of r.working)
-    keeps-admits rows sub p a r e i =
-        admitted c time (λ p w. Inv o p c ls g (rows_of w)) rows (λ p a b r m d i. keeps-admit p a b r (sub b m) d i) rows (λ b m. m) p a r e i
+    keeps_admits rows sub p a r e i =
+        admitted c time (λ p w. Inv o p c ls g (rows_of w)) rows (λ p a b r m d i. keeps_admit p a b r (sub b m) d i) rows (λ b m. m) p a r e i
 
     -- none of these is a conflict, so that the whole batch is admitted
-    pub all-admitted : (rows : List BatchRow) → ((b : BatchRow) → Memᴰ b rows → Memᴰ b.row o) → (p : List Row) (a : Admitted)
+    pub all_admitted : (rows : List BatchRow) → ((b : BatchRow) → Memᴰ b rows → Memᴰ b.row o) → (p : List Row) (a : Admitted)
         → Inv o p c ls g (rows_of a.working) → (r : Admitted) × (admit_all c time a rows ≡ done r)
     unfolding admit_all
-    all-admitted [] sub p a i = (a, refl)
-    all-admitted (b ∷ rows) sub p a i =
+    all_admitted [] sub p a i = (a, refl)
+    all_admitted (b ∷ rows) sub p a i =
         let bo = sub b (mathlib.Core.List.Memᴰ.head refl) in
         let (x, e) = admits_same c time a b (λ h m q n. ((one_row_lem h.row b.row).1 (sym (one b.row h.row bo (i.held h.row (rows_mem a.working m)) q n))).2) in
-        let (r, f) = all-admitted rows (λ y m. sub y (mathlib.Core.List.Memᴰ.tail m)) (p ++ (b.row ∷ [])) x (keeps-admit p a b x bo (admits c time a b x e) i) in
+        let (r, f) = all_admitted rows (λ y m. sub y (mathlib.Core.List.Memᴰ.tail m)) (p ++ (b.row ∷ [])) x (keeps_admit p a b x bo (admits c time a b x e) i) in
         (r, rw e f)
 
   -- the working rows are drained, and nothing is dropped
@@ -229,11 +229,11 @@ module _ (o : List Row) (one : OneContent o) (valid : AllValid o) where
     pub none_dropped : dropped ≡ 0
 
   module _ (p : List Row) (s : Store) (ls : List Row) where
-    settles-log : (c : List (ℕ × ℕ)) (w l : List HeldRow) (d : ℕ) (h : HeldRow) (rest : List HeldRow) → ready c h.row ≡ true → Taken h rest w
+    settles_log : (c : List (ℕ × ℕ)) (w l : List HeldRow) (d : ℕ) (h : HeldRow) (rest : List HeldRow) → ready c h.row ≡ true → Taken h rest w
         → h.row.seq ≡ suc (get c h.row.author) → Settled p s ls c w l d → Settled p s ls (observe c h.row.author h.row.seq) rest (l ++ (h ∷ [])) d
     unfolding insert
-    settles-log c w l d h rest rd t e k =
-        let i = keeps-log k.inv h.row rd (taken_rows t) e in
+    settles_log c w l d h rest rd t e k =
+        let i = keeps_log k.inv h.row rd (taken_rows t) e in
         let rows = rows_last l h in
         let store = insert_last s (rows_of l) h.row in
         record {
@@ -244,7 +244,7 @@ module _ (o : List Row) (one : OneContent o) (valid : AllValid o) where
     pub settles : (a : Admitted) → Inv o p s.clock ls s.log (rows_of a.working) → EndsIn (Settled p s ls) (settle s a)
     unfolding insert_all rows_of
     settles a i =
-        settled (Settled p s ls) settles-log
-        (λ c w l d h rest rd t ne k. absurd (ne (is-next k.inv h.row rd (taken_rows t))))
+        settled (Settled p s ls) settles_log
+        (λ c w l d h rest rd t ne k. absurd (ne (is_next k.inv h.row rd (taken_rows t))))
         s a
         (record { inv = rw (append-nil ls) i; none_dropped = refl })

@@ -69,10 +69,10 @@ leads c (k ∷ ws) (Sorted.more f s) =
     ]) refl
 
 pub first_is_least : FirstIsLeast
-first_is_least c ws h rest s e = of-found (rw e at (leads c ws s))
+first_is_least c ws h rest s e = of_found (rw e at (leads c ws s))
   where
-    of-found : {c : List (ℕ × ℕ)} {ws rest : List HeldRow} {h : HeldRow} → Leads c ws (first_is h rest) → Least c ws h
-    of-found (goes l t) = l
+    of_found : {c : List (ℕ × ℕ)} {ws rest : List HeldRow} {h : HeldRow} → Leads c ws (first_is h rest) → Least c ws h
+    of_found (goes l t) = l
 
 pub working_in_order : WorkingInOrder
 working_in_order s cutoff time rows a sound e = (working_order s cutoff time rows a sound e).rises

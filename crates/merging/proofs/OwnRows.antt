@@ -20,7 +20,7 @@ use Rattle.clock.specs.Entries.{get}
 use Rattle.clock.specs.Vector.{entries, sound}
 use Rattle.clock.specs.Area.{clock_at}
 use Rattle.clock.proofs.LexicographicOrder.{clash}
-use Rattle.clock.proofs.SendRule.{now_later, now-next, now-spent}
+use Rattle.clock.proofs.SendRule.{now_later, now_next, now_spent}
 use Rattle.clock.proofs.ClockEntries.{sound_rising}
 use Rattle.codec.specs.Reading.{part_of}
 use Rattle.codec.specs.Writing.{sized}
@@ -33,7 +33,7 @@ use Rattle.row.specs.Unsigned.{unsigned_row, read_unsigned}
 use Rattle.row.proofs.DepsPairs.{DepsOk, deps_of_lem, length_pairs_le}
 use Rattle.row.proofs.CanonicalSlot.{HeldGood}
 use Rattle.row.proofs.RowBounds.{row_good, good_row}
-use Rattle.row.proofs.RoundTrip.{head-there, deps_there, sized_there}
+use Rattle.row.proofs.RoundTrip.{head_there, deps_there, sized_there}
 use Rattle.log.specs.Calls.{read_clock}
 use Rattle.log.proofs.Store.Soundness.{words_in}
 use Rattle.merging.specs.Batch.{whole}
@@ -80,7 +80,7 @@ module _ (r : Row) (g : HeldGood (logged r)) where
       let parts : with_payload (part_of bytes (within payload_at_lem r.payload)) ≡ with_payload r.payload =
       ap with_payload (part_there bytes payload_at_lem r.payload _ payload_stands) in
       sym
-      (on _ (sym (head-there bytes r g 0 _ head_stands))
+      (on _ (sym (head_there bytes r g 0 _ head_stands))
       (on _ (sym (deps_there bytes deps_at_lem r.deps _ g.few.deps g.deps deps_stand))
       (on _ (sym (sized_there bytes payload_at_lem 256 r.payload _ (omega (arith, g.few.payload)) g.few.payload payload_stands))
       (rw (← end, parts)))))
@@ -107,9 +107,9 @@ stamp_fits j time t ht ha hw hc e = elim (lt_or_le j.last_wall time) [
   | inr h ↦ elim (lt_or_le j.last_counter 4294967295) [
     | inl k ↦
         let z : t ≡ record { wall_time = j.last_wall; logical_counter = j.last_counter + 1; actor_id = j.actor } =
-        cc (e, ap (λ x. x.answer) (now-next j time h k)) in
+        cc (e, ap (λ x. x.answer) (now_next j time h k)) in
         rw z (record { wall = omega arith; counter = omega arith; stamper = omega arith })
-    | inr k ↦ absurd (not_refused (sym (ap (λ x. x.answer) (now-spent j time h k)) ∙ e))
+    | inr k ↦ absurd (not_refused (sym (ap (λ x. x.answer) (now_spent j time h k)) ∙ e))
   ]
 ]
 

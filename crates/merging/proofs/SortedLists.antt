@@ -78,16 +78,16 @@ module _ (less : Row → Row → Bool) (trans : (a b c : Row) → less a b ≡ t
   ]
 
   module _ (irrefl : (a : Row) → less a a ≡ true → ⊥) where
-    pub sorted-sublist : (l₁ l₂ : List Row) → Sorted less l₁ → Sorted less l₂ → ((y : Row) → Memᴰ y l₁ → Memᴰ y l₂) → Sublistᴰ l₁ l₂
-    sorted-sublist [] l₂ s t sub = Sublistᴰ.nil-sublist l₂
-    sorted-sublist (x ∷ l₁) [] s t sub = absurd (Memᴰ.not-nil (sub x (Memᴰ.head refl)))
-    sorted-sublist (x ∷ l₁) (z ∷ l₂) (Sorted.more h s) (Sorted.more k t) sub =
+    pub sorted_sublist : (l₁ l₂ : List Row) → Sorted less l₁ → Sorted less l₂ → ((y : Row) → Memᴰ y l₁ → Memᴰ y l₂) → Sublistᴰ l₁ l₂
+    sorted_sublist [] l₂ s t sub = Sublistᴰ.nil-sublist l₂
+    sorted_sublist (x ∷ l₁) [] s t sub = absurd (Memᴰ.not-nil (sub x (Memᴰ.head refl)))
+    sorted_sublist (x ∷ l₁) (z ∷ l₂) (Sorted.more h s) (Sorted.more k t) sub =
         elim (Memᴰ.cases_cons (sub x (Memᴰ.head refl))) [
-          | inl e ↦ Sublistᴰ.cons-cons e (sorted-sublist l₁ l₂ s t (λ y m. elim (Memᴰ.cases_cons (sub y (Memᴰ.tail m))) [
+          | inl e ↦ Sublistᴰ.cons-cons e (sorted_sublist l₁ l₂ s t (λ y m. elim (Memᴰ.cases_cons (sub y (Memᴰ.tail m))) [
             | inl p ↦ absurd (irrefl z (rw (e, p) at (h y m)))
             | inr q ↦ q
           ]))
-          | inr m ↦ Sublistᴰ.cons (sorted-sublist (x ∷ l₁) l₂ (Sorted.more h s) t (λ y n. elim (Memᴰ.cases_cons (sub y n)) [
+          | inr m ↦ Sublistᴰ.cons (sorted_sublist (x ∷ l₁) l₂ (Sorted.more h s) t (λ y n. elim (Memᴰ.cases_cons (sub y n)) [
             | inl p ↦ absurd (elim (Memᴰ.cases_cons n) [
               | inl q ↦ irrefl x (rw (← p, q) at (k x m))
               | inr q ↦ irrefl z (trans z x z (k x m) (rw p at (h y q)))
@@ -97,9 +97,9 @@ module _ (less : Row → Row → Bool) (trans : (a b c : Row) → less a b ≡ t
         ]
 
     -- sorted lists with the same members are equal
-    pub sorted-unique : (l₁ l₂ : List Row) → Sorted less l₁ → Sorted less l₂ → ((y : Row) → Memᴰ y l₁ → Memᴰ y l₂)
+    pub sorted_unique : (l₁ l₂ : List Row) → Sorted less l₁ → Sorted less l₂ → ((y : Row) → Memᴰ y l₁ → Memᴰ y l₂)
         → ((y : Row) → Memᴰ y l₂ → Memᴰ y l₁) → l₁ ≡ l₂
-    sorted-unique l₁ l₂ s t u v =
-        let p = sorted-sublist l₁ l₂ s t u in
-        let q = sorted-sublist l₂ l₁ t s v in
+    sorted_unique l₁ l₂ s t u v =
+        let p = sorted_sublist l₁ l₂ s t u in
+        let q = sorted_sublist l₂ l₁ t s v in
         Sublistᴰ.eq_of_length p (le_antisymm (Sublistᴰ.length-le p) (Sublistᴰ.length-le q))

@@ -14,7 +14,7 @@ use Rattle.row.specs.Rows.{Row, work_less}
 use Rattle.log.specs.Store.{Store}
 use Rattle.log.specs.Areas.{rows_of}
 use Rattle.merging.specs.Offers.{count, ListedAfter, log_less, Follows, Within, Agree}
-use Rattle.merging.proofs.SortedLists.{sorted-sublist, sorted-unique}
+use Rattle.merging.proofs.SortedLists.{sorted_sublist, sorted_unique}
 use Rattle.merging.proofs.RowOrders.{work_trans, work_irrefl, log_trans, log_irrefl}
 use Rattle.merging.proofs.ClockLaws.{clock_unique}
 use Rattle.merging.proofs.CausalListings.{count_none, count_last, count_not_last, last_self, listed_more, listed_until}
@@ -74,12 +74,12 @@ module _ (o₁ o₂ : List Row) (s₁ s₂ : Store) (f₁ : Follows o₁ s₁) (
       (f₁.logged r).1 (before, listed_more w c)
 
   more_log : Within o₂ o₁ → Sublistᴰ s₂.log s₁.log
-  more_log w = sorted-sublist log_less log_trans log_irrefl s₂.log s₁.log f₂.log_order f₁.log_order (log_within w)
+  more_log w = sorted_sublist log_less log_trans log_irrefl s₂.log s₁.log f₂.log_order f₁.log_order (log_within w)
 
 module _ (o₁ o₂ : List Row) (s₁ s₂ : Store) (f₁ : Follows o₁ s₁) (f₂ : Follows o₂ s₂) (to : Within o₁ o₂) (from : Within o₂ o₁) where
   equal_logs : s₁.log ≡ s₂.log
   equal_logs =
-      sorted-unique log_less log_trans log_irrefl s₁.log s₂.log f₁.log_order f₂.log_order (log_within o₂ o₁ s₂ s₁ f₂ f₁ to)
+      sorted_unique log_less log_trans log_irrefl s₁.log s₂.log f₁.log_order f₂.log_order (log_within o₂ o₁ s₂ s₁ f₂ f₁ to)
       (log_within o₁ o₂ s₁ s₂ f₁ f₂ from)
 
   equal_clocks : Rises 0 s₁.clock → Rises 0 s₂.clock → s₁.clock ≡ s₂.clock
@@ -89,7 +89,7 @@ module _ (o₁ o₂ : List Row) (s₁ s₂ : Store) (f₁ : Follows o₁ s₁) (
 
   equal_held : rows_of s₁.held ≡ rows_of s₂.held
   equal_held =
-      sorted-unique work_less work_trans work_irrefl (rows_of s₁.held) (rows_of s₂.held) f₁.held_order f₂.held_order
+      sorted_unique work_less work_trans work_irrefl (rows_of s₁.held) (rows_of s₂.held) f₁.held_order f₂.held_order
       (λ r m. let k = (f₁.held r).0 m in (f₂.held r).1 (to r k.0, rw equal_logs at k.1))
       (λ r m. let k = (f₂.held r).0 m in (f₁.held r).1 (from r k.0, rw (← equal_logs) at k.1))
 

@@ -29,7 +29,7 @@ use Rattle.merging.proofs.CausalListings.{count_none, last_self, last_cases}
 use Rattle.merging.proofs.RowLists.{goes_before, unexpired_all}
 use Rattle.merging.proofs.DrainInduction.{Idle, taken_place, ready_seq, ready_deps, is_ready, settle_every, settled_store}
 use Rattle.merging.proofs.Admission.{admit_every}
-use Rattle.merging.proofs.Invariant.{Valid, AllValid, Inv, weaker, keeps-log, keeps-new, keeps-admits, settles}
+use Rattle.merging.proofs.Invariant.{Valid, AllValid, Inv, weaker, keeps_log, keeps_new, keeps_admits, settles}
 use Rattle.merging.proofs.ClockLaws.{get_others, get_member}
 use Rattle.merging.proofs.Sealings.{Seals, row_sealed}
 use Rattle.log.specs.Insertion.{insert_row, insert, insert_all}
@@ -149,7 +149,7 @@ module _ {o p : List Row} (one : OneContent o) (valid : AllValid o) (s : Store) 
   pub ended_settled : (a : Admitted) → admit_all s.clock time (starting (staying l time s)) rows ≡ done a → Ended o (p ++ batch_rows rows) (commit s (settle s a))
   unfolding settle commit
   ended_settled a e =
-      let working = keeps-admits o one valid s.clock time ls s.log rows (λ b k. sub b.row (batch_row_lem rows b k)) p _ a e i in
+      let working = keeps_admits o one valid s.clock time ls s.log rows (λ b k. sub b.row (batch_row_lem rows b k)) p _ a e i in
       let d : Drained = settle s a in
       let base : Store =
       record { log = s.log; held = d.waiting; floor = s.floor; clock = s.clock; compacted = s.compacted; marks = s.marks } in
@@ -211,8 +211,8 @@ module _ {o p : List Row} {c : List (ℕ × ℕ)} {ls g w : List Row} (r : Row) 
 
   pub keeps_seal : Inv (o ++ (r ∷ [])) (p ++ (r ∷ [])) (observe c r.author r.seq) (ls ++ (r ∷ [])) (insert_row r g) w
   keeps_seal =
-      keeps-log (o ++ (r ∷ [])) one valid
-      (keeps-new (o ++ (r ∷ [])) one valid (more_offers (λ y m. mathlib.Core.List.Memᴰ.append_left (r ∷ []) m) i) r (last_self o r) (omega arith) apart)
+      keeps_log (o ++ (r ∷ [])) one valid
+      (keeps_new (o ++ (r ∷ [])) one valid (more_offers (λ y m. mathlib.Core.List.Memᴰ.append_left (r ∷ []) m) i) r (last_self o r) (omega arith) apart)
       r met (taken_place (goes_before r) r w) next
 
 module _ {o : List Row} {t : List Accepted} {s : Store} (cap : ℕ) (r : Row) (s' : Store) (e : seal_row cap s r ≡ done s')

@@ -91,39 +91,39 @@ last_tag tag h a b c d = level tag 4 h (next 3 tag (next 2 tag (next 1 tag (next
 
 module _ (s : List ℕ) (at : ℕ) where
   module _ (tag : ℕ) where
-    pub body-tag : 4 < tag → bad (InvalidTag tag) ≡ body_by (get_body tag s at)
+    pub body_tag : 4 < tag → bad (InvalidTag tag) ≡ body_by (get_body tag s at)
     unfolding body_by get_body
-    body-tag h =
+    body_tag h =
         rw
         (ne_eqb tag 0 (λ e. omega arith), ne_eqb tag 1 (λ e. omega arith), ne_eqb tag 2 (λ e. omega arith), ne_eqb tag 3 (λ e. omega arith), ne_eqb tag 4 (λ e. omega arith))
 
-    pub body-hello : tag ≡ 0 → after (get_clock 32 s at) (λ es next. got (kind.Hello, clock_of es) next) ≡ body_by (get_body tag s at)
+    pub body_hello : tag ≡ 0 → after (get_clock 32 s at) (λ es next. got (kind.Hello, clock_of es) next) ≡ body_by (get_body tag s at)
     unfolding get_body
-    body-hello e = rw e (sym (body_of_lem hello (get_clock 32 s at)))
+    body_hello e = rw e (sym (body_of_lem hello (get_clock 32 s at)))
 
-    pub body-delta : tag ≡ 1 → body_by (get_body 1 s at) ≡ body_by (get_body tag s at)
-    body-delta e = ap (λ (t : ℕ). body_by (get_body t s at)) (sym e)
+    pub body_delta : tag ≡ 1 → body_by (get_body 1 s at) ≡ body_by (get_body tag s at)
+    body_delta e = ap (λ (t : ℕ). body_by (get_body t s at)) (sym e)
 
-    pub body-ack : tag ≡ 2 → after (get_clock 32 s at) (λ es next. got (kind.Ack, clock_of es) next) ≡ body_by (get_body tag s at)
+    pub body_ack : tag ≡ 2 → after (get_clock 32 s at) (λ es next. got (kind.Ack, clock_of es) next) ≡ body_by (get_body tag s at)
     unfolding get_body
-    body-ack e = rw e (sym (body_of_lem ack (get_clock 32 s at)))
+    body_ack e = rw e (sym (body_of_lem ack (get_clock 32 s at)))
 
     module _ (h : tag ≤ 4) (a : tag ≡ 0 → ⊥) (b : tag ≡ 1 → ⊥) (c : tag ≡ 2 → ⊥) where
-      pub body-nonce : {k : Refusal} → get_varint s at ≡ bad k → bad k ≡ body_by (get_body tag s at)
+      pub body_nonce : {k : Refusal} → get_varint s at ≡ bad k → bad k ≡ body_by (get_body tag s at)
       unfolding get_body body_by
-      body-nonce e =
+      body_nonce e =
           elim (test (eqb tag 3)) [
             | inl f ↦ rw (ne_eqb tag 0 a, ne_eqb tag 1 b, ne_eqb tag 2 c, f, e)
             | inr f ↦ rw (ne_eqb tag 0 a, ne_eqb tag 1 b, ne_eqb tag 2 c, f, eq-eqb tag 4 (last_tag tag h a b c (eqb-false tag 3 f)), e)
           ]
 
-      pub body-pong : (tag ≡ 3 → ⊥) → {v n : ℕ} → get_varint s at ≡ got v n → got (kind.Pong v, clock_of []) n ≡ body_by (get_body tag s at)
+      pub body_pong : (tag ≡ 3 → ⊥) → {v n : ℕ} → get_varint s at ≡ got v n → got (kind.Pong v, clock_of []) n ≡ body_by (get_body tag s at)
       unfolding get_body body_by
-      body-pong d e = rw (ne_eqb tag 0 a, ne_eqb tag 1 b, ne_eqb tag 2 c, ne_eqb tag 3 d, eq-eqb tag 4 (last_tag tag h a b c d), e)
+      body_pong d e = rw (ne_eqb tag 0 a, ne_eqb tag 1 b, ne_eqb tag 2 c, ne_eqb tag 3 d, eq-eqb tag 4 (last_tag tag h a b c d), e)
 
-    pub body-ping : tag ≡ 3 → {v n : ℕ} → get_varint s at ≡ got v n → got (kind.Ping v, clock_of []) n ≡ body_by (get_body tag s at)
+    pub body_ping : tag ≡ 3 → {v n : ℕ} → get_varint s at ≡ got v n → got (kind.Ping v, clock_of []) n ≡ body_by (get_body tag s at)
     unfolding get_body body_by
-    body-ping e f = rw (e, f)
+    body_ping e f = rw (e, f)
 
   -- a Delta
   pub delta_no_count : {k : Refusal} → count_within max_ops 64 s at ≡ bad k → bad k ≡ body_by (get_body 1 s at)
@@ -131,15 +131,15 @@ module _ (s : List ℕ) (at : ℕ) where
   delta_no_count e = rw e
 
   module _ {n first : ℕ} (e : count_within max_ops 64 s at ≡ got n first) (r : Reading) (f : ended_by r nothing ≡ checked (get_rows s n first)) where
-    pub delta-no-rows : {k j : Refusal} → r ≡ Refused k → j ≡ fault_of r → bad j ≡ body_by (get_body 1 s at)
+    pub delta_no_rows : {k j : Refusal} → r ≡ Refused k → j ≡ fault_of r → bad j ≡ body_by (get_body 1 s at)
     unfolding get_body body_by
-    delta-no-rows {k} {j} h p =
+    delta_no_rows {k} {j} h p =
         let x : get_rows s n first ≡ bad k = refused_by (get_rows s n first) (ap (λ (y : Reading). ended_by y nothing) (sym h) ∙ f) in
         ap bad (p ∙ ap fault_of h) ∙ rw (e, x)
 
-    pub delta-rows : {next : ℕ} → r ≡ Read next → got (kind.Delta n, clock_of []) next ≡ body_by (get_body 1 s at)
+    pub delta_rows_lem : {next : ℕ} → r ≡ Read next → got (kind.Delta n, clock_of []) next ≡ body_by (get_body 1 s at)
     unfolding get_body body_by
-    delta-rows {next} h =
+    delta_rows_lem {next} h =
         let t : Tested s n first next = tested s n first r f h in
         rw (e, t.is) (ap (λ (m : ℕ). got (kind.Delta m, clock_of []) next) (sym (rows_count s n first t.rows next t.is)))
 
@@ -180,32 +180,32 @@ module _ (s : List ℕ) where
   no_tag e = rw e
 
   module _ {tag at : ℕ} (e : get_u8 s 0 ≡ got tag at) where
-    no-message : {k : Refusal} → get_body tag s at ≡ bad k → refused k ≡ closed_by (read_message s)
+    no_message : {k : Refusal} → get_body tag s at ≡ bad k → refused k ≡ closed_by (read_message s)
     unfolding read_message closed_by
-    no-message f = rw (e, f)
+    no_message f = rw (e, f)
 
-    message-read : {m : Message} {next : ℕ} → get_body tag s at ≡ got m next → finish s next ≡ done next → done (seen m) ≡ closed_by (read_message s)
+    message_read : {m : Message} {next : ℕ} → get_body tag s at ≡ got m next → finish s next ≡ done next → done (seen m) ≡ closed_by (read_message s)
     unfolding read_message closed_by
-    message-read f l = rw (e, f, l)
+    message_read f l = rw (e, f, l)
 
-    message-over : {m : Message} {next : ℕ} {k : Refusal} → get_body tag s at ≡ got m next → finish s next ≡ refused k → refused k ≡ closed_by (read_message s)
+    message_over : {m : Message} {next : ℕ} {k : Refusal} → get_body tag s at ≡ got m next → finish s next ≡ refused k → refused k ≡ closed_by (read_message s)
     unfolding read_message closed_by
-    message-over f l = rw (e, f, l)
+    message_over f l = rw (e, f, l)
 
     module _ (b : BodyGot) (f : body_of b ≡ body_by (get_body tag s at)) where
       abbrev held : Reading → Answer (Kind × VectorClock)
       held r = answered_by r (b.kind, b.clock)
 
-      pub closed-body : {k : Refusal} → b.reading ≡ Refused k → closed_of b ≡ closed_by (read_message s)
-      closed-body h = ap held h ∙ no-message (body_refused _ b.reading b.kind b.clock f h)
+      pub closed_body : {k : Refusal} → b.reading ≡ Refused k → closed_of b ≡ closed_by (read_message s)
+      closed_body h = ap held h ∙ no_message (body_refused _ b.reading b.kind b.clock f h)
 
-      pub closed-end : {next : ℕ} → b.reading ≡ Read next → finish s next ≡ done next → closed_of b ≡ closed_by (read_message s)
-      closed-end h l =
+      pub closed_end : {next : ℕ} → b.reading ≡ Read next → finish s next ≡ done next → closed_of b ≡ closed_by (read_message s)
+      closed_end h l =
           let x = body_read _ b.reading b.kind b.clock f h in
-          ap held h ∙ ap done x.holds ∙ message-read x.is l
+          ap held h ∙ ap done x.holds ∙ message_read x.is l
 
-      pub closed-over : {next : ℕ} {k : Refusal} → b.reading ≡ Read next → finish s next ≡ refused k → refused k ≡ closed_by (read_message s)
-      closed-over h l = message-over (body_read _ b.reading b.kind b.clock f h).is l
+      pub closed_over : {next : ℕ} {k : Refusal} → b.reading ≡ Read next → finish s next ≡ refused k → refused k ≡ closed_by (read_message s)
+      closed_over h l = message_over (body_read _ b.reading b.kind b.clock f h).is l
 
 -- ---- a Delta that was read, taken apart
 -- the Delta that fills all of s: its count, and its rows
@@ -257,7 +257,7 @@ delta_parts s rs e =
     let b = after_got (get_u8 s 0) _ a.1 in
     let one : b.1 ≡ 1 = tag_next s b.2 in
     let c = after_got (after (count_within max_ops 64 s b.1) (λ n at. get_rows s n at)) _ (delta_body s b.0 b.1 rs a.0 b.3) in
-    let m : c.0 ≡ rs = delta-rows-are (got_value c.3) in
+    let m : c.0 ≡ rs = delta_rows_are (got_value c.3) in
     let d = after_got (count_within max_ops 64 s b.1) _ c.2 in
     let x = after_got (get_count s b.1 max_ops) _ d.2 in
     let y = need_got (leb x.0 64) OverCapacity _ x.3 in
@@ -271,5 +271,5 @@ delta_parts s rs e =
       rows = d.3 ∙ ap (λ (l : List Row). got l c.1) m;
     }
   where
-    delta-rows-are : {xs ys : List Row} → delta xs ≡ delta ys → xs ≡ ys
-    delta-rows-are e = cc
+    delta_rows_are : {xs ys : List Row} → delta xs ≡ delta ys → xs ≡ ys
+    delta_rows_are e = cc

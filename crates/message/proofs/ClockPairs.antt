@@ -109,23 +109,23 @@ module _ {s : List ℕ} {first n : ℕ} {c : VectorClock} {next i : ℕ} (g : En
     rest : n - i ≡ suc (n - (i + 1))
     rest = omega arith
 
-    pub entering-stops : {k : Refusal} → get_pair s next ≡ bad k → bad k ≡ clock_by (get_pairs s [] n first)
+    pub entering_stops : {k : Refusal} → get_pair s next ≡ bad k → bad k ≡ clock_by (get_pairs s [] n first)
     unfolding clock_by get_pairs
-    entering-stops e = rw (g.same, rest, e)
+    entering_stops e = rw (g.same, rest, e)
 
     module _ (a q end : ℕ) (e : get_pair s next ≡ got (a, q) end) where
       -- the next is entered
-      pub entering-more : (ks ns : List ℕ) (used : ℕ) → room_of c ks ns (Count used) ≡ grown c (enter (entries c) a q) nothing
+      pub entering_more : (ks ns : List ℕ) (used : ℕ) → room_of c ks ns (Count used) ≡ grown c (enter (entries c) a q) nothing
           → Entering s first n (in_columns ks ns used) end (i + 1)
       unfolding get_pairs
-      entering-more ks ns used f =
+      entering_more ks ns used f =
           let d = grown_done c (enter (entries c) a q) (room_of c ks ns (Count used)) f refl in
           entering s first n (in_columns ks ns used) (enter (entries c) a q) end (i + 1) d.1 (enter_rises a q (entries c) (rises_of 0 (entries c) (sound_rising c g.keeps)))
           (omega (arith, enter_one a q (entries c), g.short)) (omega arith) g.few (g.same ∙ rw (rest, e))
 
       -- there is always room
-      pub entering-room : ends (refused AuthorsFull) c ≡ grown c (enter (entries c) a q) nothing → ⊥
-      entering-room f =
+      pub entering_room : ends (refused AuthorsFull) c ≡ grown c (enter (entries c) a q) nothing → ⊥
+      entering_room f =
           let d = grown_refused c (enter (entries c) a q) (ends (refused AuthorsFull) c) f AuthorsFull refl in
           omega (arith, d.0, enter_one a q (entries c), g.short, g.few)
 

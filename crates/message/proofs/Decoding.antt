@@ -154,14 +154,14 @@ module _ (s : List ℕ) {room : ℕ} (d : IsDelta s room) where
         let y : parts.first ≡ first = got_next same in
         sym (λ i. get_rows s (x i) (y i)) ∙ parts.rows
 
-    pub delta-readable : Readable s first n
-    delta-readable = record { rows = d.rows; end = parts.end; is = there }
+    pub delta_readable : Readable s first n
+    delta_readable = record { rows = d.rows; end = parts.end; is = there }
 
-    pub delta-room : 704 * n ≤ room
-    delta-room = omega (arith, d.fits, rows_count s n first d.rows parts.end there)
+    pub delta_room : 704 * n ≤ room
+    delta_room = omega (arith, d.fits, rows_count s n first d.rows parts.end there)
 
-    pub delta-written : (area area' : List ℕ) → area' ≡ put_at area 0 (encode_slots (logged_rows (rows_in (get_rows s n first)))) → area' ≡ rows_left area (read_message s)
-    delta-written area area' f =
+    pub delta_written : (area area' : List ℕ) → area' ≡ put_at area 0 (encode_slots (logged_rows (rows_in (get_rows s n first)))) → area' ≡ rows_left area (read_message s)
+    delta_written area area' f =
         f ∙ ap (λ (g : Got (List Row)). put_at area 0 (encode_slots (logged_rows (rows_in g)))) there ∙ ap (rows_left area) (sym d.is)
 
 -- the slots have room
@@ -187,41 +187,41 @@ module _ (body clock rows : List ℕ) where
     unfolding message_call
     call_done m r h = rw (le-leb 520 (length clock) long, r, le-leb (704 * row_count m) (length rows) h)
 
-    done-reads : (m : Message) (c r' : List ℕ) {k : Kind} → message_call body clock rows ≡ done m → k ≡ kind_of m → c ≡ clock_left clock (done m) → r' ≡ rows_left rows (done m)
+    done_reads : (m : Message) (c r' : List ℕ) {k : Kind} → message_call body clock rows ≡ done m → k ≡ kind_of m → c ≡ clock_left clock (done m) → r' ≡ rows_left rows (done m)
         → ReadsMessage body clock rows (read.Message k) c r'
-    done-reads m c r' e h f g = record { answer = rw e (ap read.Message h); clock_area_lem = rw e f; rows_area = rw e g }
+    done_reads m c r' e h f g = record { answer = rw e (ap read.Message h); clock_area_lem = rw e f; rows_area = rw e g }
 
-    pub short-rows : (clock' rows' : List ℕ) {n : ℕ} (rs : List Row) → read_message body ≡ done (delta rs) → length rs ≡ n → length rows / 704 < n → clock' ≡ clock → rows' ≡ rows
+    pub short_rows : (clock' rows' : List ℕ) {n : ℕ} (rs : List Row) → read_message body ≡ done (delta rs) → length rs ≡ n → length rows / 704 < n → clock' ≡ clock → rows' ≡ rows
         → ReadsMessage body clock rows (read.Refused ShortArea) clock' rows'
     unfolding message_call
-    short-rows clock' rows' rs r c h e f =
+    short_rows clock' rows' rs r c h e f =
         let x = le-leb 520 (length clock) long in
         let y = lt-leb (704 * length rs) (length rows) (omega arith) in
         record { answer = rw (x, r, y); clock_area_lem = rw (x, r, y) e; rows_area = rw (x, r, y) f }
 
     module _ (clock' rows' : List ℕ) where
-      pub read-hello : {k : Kind} {c : VectorClock} (es : List (ℕ × ℕ)) → read_message body ≡ done (hello es) → k ≡ kind.Hello → c ≡ clock_of es
+      pub read_hello : {k : Kind} {c : VectorClock} (es : List (ℕ × ℕ)) → read_message body ≡ done (hello es) → k ≡ kind.Hello → c ≡ clock_of es
           → clock' ≡ put_at clock 0 (clock_bytes c) → rows' ≡ rows → ReadsMessage body clock rows (read.Message k) clock' rows'
-      read-hello es r k e f g =
-          done-reads (hello es) clock' rows' (call_done (hello es) r (omega arith)) k (f ∙ ap (λ (d : VectorClock). put_at clock 0 (clock_bytes d)) e) g
+      read_hello es r k e f g =
+          done_reads (hello es) clock' rows' (call_done (hello es) r (omega arith)) k (f ∙ ap (λ (d : VectorClock). put_at clock 0 (clock_bytes d)) e) g
 
-      pub read-ack : {k : Kind} {c : VectorClock} (es : List (ℕ × ℕ)) → read_message body ≡ done (ack es) → k ≡ kind.Ack → c ≡ clock_of es
+      pub read_ack : {k : Kind} {c : VectorClock} (es : List (ℕ × ℕ)) → read_message body ≡ done (ack es) → k ≡ kind.Ack → c ≡ clock_of es
           → clock' ≡ put_at clock 0 (clock_bytes c) → rows' ≡ rows → ReadsMessage body clock rows (read.Message k) clock' rows'
-      read-ack es r k e f g =
-          done-reads (ack es) clock' rows' (call_done (ack es) r (omega arith)) k (f ∙ ap (λ (d : VectorClock). put_at clock 0 (clock_bytes d)) e) g
+      read_ack es r k e f g =
+          done_reads (ack es) clock' rows' (call_done (ack es) r (omega arith)) k (f ∙ ap (λ (d : VectorClock). put_at clock 0 (clock_bytes d)) e) g
 
-      pub read-delta : {k : Kind} {n : ℕ} (rs : List Row) → read_message body ≡ done (delta rs) → length rs ≡ n → k ≡ kind.Delta n → n ≤ length rows / 704
+      pub read_delta : {k : Kind} {n : ℕ} (rs : List Row) → read_message body ≡ done (delta rs) → length rs ≡ n → k ≡ kind.Delta n → n ≤ length rows / 704
           → clock' ≡ clock → rows' ≡ rows_left rows (read_message body) → ReadsMessage body clock rows (read.Message k) clock' rows'
-      read-delta rs r c k h e f =
-          done-reads (delta rs) clock' rows' (call_done (delta rs) r (omega arith)) (k ∙ ap kind.Delta (sym c)) e (f ∙ ap (rows_left rows) r)
+      read_delta rs r c k h e f =
+          done_reads (delta rs) clock' rows' (call_done (delta rs) r (omega arith)) (k ∙ ap kind.Delta (sym c)) e (f ∙ ap (rows_left rows) r)
 
-      pub read-ping : {k : Kind} {n : ℕ} → read_message body ≡ done (ping n) → k ≡ kind.Ping n → clock' ≡ clock → rows' ≡ rows
+      pub read_ping : {k : Kind} {n : ℕ} → read_message body ≡ done (ping n) → k ≡ kind.Ping n → clock' ≡ clock → rows' ≡ rows
           → ReadsMessage body clock rows (read.Message k) clock' rows'
-      read-ping {n = n} r k e f = done-reads (ping n) clock' rows' (call_done (ping n) r (omega arith)) k e f
+      read_ping {n = n} r k e f = done_reads (ping n) clock' rows' (call_done (ping n) r (omega arith)) k e f
 
-      pub read-pong : {k : Kind} {n : ℕ} → read_message body ≡ done (pong n) → k ≡ kind.Pong n → clock' ≡ clock → rows' ≡ rows
+      pub read_pong : {k : Kind} {n : ℕ} → read_message body ≡ done (pong n) → k ≡ kind.Pong n → clock' ≡ clock → rows' ≡ rows
           → ReadsMessage body clock rows (read.Message k) clock' rows'
-      read-pong {n = n} r k e f = done-reads (pong n) clock' rows' (call_done (pong n) r (omega arith)) k e f
+      read_pong {n = n} r k e f = done_reads (pong n) clock' rows' (call_done (pong n) r (omega arith)) k e f
 
 -- an envelope, by the code's answer
 pub envelope_read : (s : List ℕ) {r : EnvelopeRead} {sender : ActorId} {ba bl sa sl : ℕ} → envelope_of r ≡ read_envelope s → r ≡ envelope.Envelope sender ba bl sa sl
@@ -262,9 +262,9 @@ module _ (s clock rows : List ℕ) where
   frame_short clock' rows' h e f = let x = lt-leb 520 (length clock) h in record { answer = rw x; clock_area_lem = rw x e; rows_area = rw x f }
 
   module _ (long : 520 ≤ length clock) {r : EnvelopeRead} (g : envelope_of r ≡ read_envelope s) where
-    pub no-envelope : (clock' rows' : List ℕ) {k : Refusal} → r ≡ envelope.Refused k → clock' ≡ clock → rows' ≡ rows → ReadsFrame s clock rows (frame.Refused k) clock' rows'
+    pub no_envelope : (clock' rows' : List ℕ) {k : Refusal} → r ≡ envelope.Refused k → clock' ≡ clock → rows' ≡ rows → ReadsFrame s clock rows (frame.Refused k) clock' rows'
     unfolding frame_call read_frame
-    no-envelope clock' rows' {k} h e f =
+    no_envelope clock' rows' {k} h e f =
         let x = le-leb 520 (length clock) long in
         let y : read_envelope s ≡ refused k = sym g ∙ ap envelope_of h in
         record { answer = rw (x, y); clock_area_lem = rw (x, y) e; rows_area = rw (x, y) f }
@@ -276,28 +276,28 @@ module _ (s clock rows : List ℕ) where
       opened : read_envelope s ≡ done found
       opened = envelope_read s g h
 
-      framed-by : (r : Answer Message) → read_message (part_of s found.body) ≡ r
+      framed_by : (r : Answer Message) → read_message (part_of s found.body) ≡ r
           → frame_call s clock rows ≡ and_then (message_call (part_of s found.body) clock rows) (λ m. done (record { envelope = found; message = m }))
       unfolding frame_call read_frame message_call
-      framed-by (done m) e =
+      framed_by (done m) e =
           elim (test (leb (704 * row_count m) (length rows))) [
             | inl h ↦ rw (le-leb 520 (length clock) long, opened, e, h)
             | inr h ↦ rw (le-leb 520 (length clock) long, opened, e, h)
           ]
-      framed-by (refused k) e = rw (le-leb 520 (length clock) long, opened, e)
+      framed_by (refused k) e = rw (le-leb 520 (length clock) long, opened, e)
 
       framed : (a : Answer Message) → message_call (part_of s found.body) clock rows ≡ a → frame_call s clock rows ≡ and_then a (λ m. done (record { envelope = found; message = m }))
-      framed a e = framed-by (read_message (part_of s found.body)) refl ∙ ap (λ (z : Answer Message). and_then z (λ m. done (record { envelope = found; message = m }))) e
+      framed a e = framed_by (read_message (part_of s found.body)) refl ∙ ap (λ (z : Answer Message). and_then z (λ m. done (record { envelope = found; message = m }))) e
 
       module _ (body clock' rows' : List ℕ) {t : MessageRead} (b : body ≡ part_of s found.body) (d : ReadsMessage body clock rows t clock' rows') where
-        pub frame-unread : {k : Refusal} → t ≡ read.Refused k → ReadsFrame s clock rows (frame.Refused k) clock' rows'
-        frame-unread {k} e =
+        pub frame_unread : {k : Refusal} → t ≡ read.Refused k → ReadsFrame s clock rows (frame.Refused k) clock' rows'
+        frame_unread {k} e =
             let x : message_call body clock rows ≡ refused k = answer_refused (message_call body clock rows) (sym d.answer ∙ e) in
             let y : frame_call s clock rows ≡ refused k = framed (refused k) (ap (λ (z : List ℕ). message_call z clock rows) (sym b) ∙ x) in
             record { answer = rw y; clock_area_lem = rw y (d.clock_area_lem ∙ ap (clock_left clock) x); rows_area = rw y (d.rows_area ∙ ap (rows_left rows) x) }
 
-        pub frame-read : {k : Kind} → t ≡ read.Message k → ReadsFrame s clock rows (frame.Frame sender ba bl sa sl k) clock' rows'
-        frame-read {k} e =
+        pub frame_read : {k : Kind} → t ≡ read.Message k → ReadsFrame s clock rows (frame.Frame sender ba bl sa sl k) clock' rows'
+        frame_read {k} e =
             let m = answer_done (message_call body clock rows) (sym d.answer ∙ e) in
             let y : frame_call s clock rows ≡ done (record { envelope = found; message = m.0 }) =
             framed (done m.0) (ap (λ (z : List ℕ). message_call z clock rows) (sym b) ∙ m.1) in

@@ -27,7 +27,7 @@ use Rattle.log.specs.Inside.StoreChanges.{Parts, rows_in}
 use Rattle.log.proofs.Calls.Restoration.{rows_from, rows_next, rows_split, length_rows_in}
 use Rattle.message.specs.Messages.{delta, rows_bytes, message_bytes}
 use Rattle.message.specs.Calls.{lent_rows, encode_delta}
-use Rattle.message.proofs.TaggedWrites.{tag_room, behind-room, tagged}
+use Rattle.message.proofs.TaggedWrites.{tag_room, behind_room, tagged}
 
 -- ---- the bytes of the first rows
 pub bytes_append : (rs qs : List Row) → rows_bytes (rs ++ qs) ≡ rows_bytes rs ++ rows_bytes qs
@@ -123,22 +123,22 @@ module _ (rows : List ℕ) (n : ℕ) where
     whole : 0 + length (1 ∷ (shortest n ++ rows_bytes (rows_in rows n))) ≤ length s
     whole = let e = ap length delta_is in omega arith
 
-    pub delta-room : 1 ≤ length s
-    delta-room = tag_room s 1 (shortest n ++ rows_bytes (rows_in rows n)) whole
+    pub delta_room : 1 ≤ length s
+    delta_room = tag_room s 1 (shortest n ++ rows_bytes (rows_in rows n)) whole
 
     module _ {at : ℕ} {t : List ℕ} (d : Stored s 0 (1 ∷ []) at t) where
       rest : at + length (shortest n ++ rows_bytes (rows_in rows n)) ≤ length t
-      rest = behind-room s 1 (shortest n ++ rows_bytes (rows_in rows n)) whole d
+      rest = behind_room s 1 (shortest n ++ rows_bytes (rows_in rows n)) whole d
 
       pub count_room : at + length (shortest n) ≤ length t
       count_room = first_room (shortest n) (rows_bytes (rows_in rows n)) at (length t) rest
 
       module _ {next : ℕ} {u : List ℕ} (e : Stored t at (shortest n) next u) where
-        pub rows-room : next + length (rows_bytes (rows_in rows n)) ≤ length u
-        rows-room = rest_room (rows_bytes (rows_in rows n)) e rest
+        pub rows_room : next + length (rows_bytes (rows_in rows n)) ≤ length u
+        rows_room = rest_room (rows_bytes (rows_in rows n)) e rest
 
-        pub delta-stored : {end : ℕ} {w : List ℕ} → Stored u next (rows_bytes (rows_in rows n)) end w → Stored s 0 (message_bytes (delta (rows_in rows n))) end w
-        delta-stored f = rw delta_is (tagged s 1 (shortest n ++ rows_bytes (rows_in rows n)) whole d (stored_then e f rest))
+        pub delta_stored : {end : ℕ} {w : List ℕ} → Stored u next (rows_bytes (rows_in rows n)) end w → Stored s 0 (message_bytes (delta (rows_in rows n))) end w
+        delta_stored f = rw delta_is (tagged s 1 (shortest n ++ rows_bytes (rows_in rows n)) whole d (stored_then e f rest))
 
 -- ---- what refuses, and what is written
 pub slots_within : {len count : ℕ} → count ≤ len / 704 → 704 * count ≤ len
@@ -150,18 +150,18 @@ module _ (out rows : List ℕ) (count : ℕ) where
   delta_short h = rw (lt-leb (704 * count) (length rows) (omega arith))
 
   module _ (h : count ≤ length rows / 704) {b : Bool} (k : b ≡ slots_ok rows 0 count) where
-    pub delta-unsound : not b ≡ true → ends (refused UnsoundStore) out ≡ encode_delta out rows count
+    pub delta_unsound : not b ≡ true → ends (refused UnsoundStore) out ≡ encode_delta out rows count
     unfolding encode_delta lent_rows
-    delta-unsound f = rw (le-leb (704 * count) (length rows) (slots_within h), ← k, not-true b f)
+    delta_unsound f = rw (le-leb (704 * count) (length rows) (slots_within h), ← k, not-true b f)
 
     module _ (f : not b ≡ false) where
       pub delta_parts : Parts rows count
       delta_parts = record { long = slots_within h; ok = sym k ∙ not-false b f }
 
-      pub delta-many : 64 < count → ends (refused OverCapacity) out ≡ encode_delta out rows count
+      pub delta_many : 64 < count → ends (refused OverCapacity) out ≡ encode_delta out rows count
       unfolding encode_delta lent_rows
-      delta-many l = rw (le-leb (704 * count) (length rows) (slots_within h), ← k, not-false b f, lt-leb count 64 l)
+      delta_many l = rw (le-leb (704 * count) (length rows) (slots_within h), ← k, not-false b f, lt-leb count 64 l)
 
-      pub delta-written : {w : Ends ℕ (List ℕ)} → count ≤ 64 → w ≡ write_call out 0 (message_bytes (delta (rows_in rows count))) → w ≡ encode_delta out rows count
+      pub delta_written : {w : Ends ℕ (List ℕ)} → count ≤ 64 → w ≡ write_call out 0 (message_bytes (delta (rows_in rows count))) → w ≡ encode_delta out rows count
       unfolding encode_delta lent_rows
-      delta-written l e = rw (le-leb (704 * count) (length rows) (slots_within h), ← k, not-false b f, le-leb count 64 l) e
+      delta_written l e = rw (le-leb (704 * count) (length rows) (slots_within h), ← k, not-false b f, le-leb count 64 l) e

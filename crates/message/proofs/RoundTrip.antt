@@ -26,7 +26,7 @@ use Rattle.row.proofs.DepsPairs.DepsOk.{none, more}
 use Rattle.row.proofs.WireLengths.{length_signed}
 use Rattle.row.proofs.CanonicalSlot.{HeldGood}
 use Rattle.row.proofs.RowBounds.{row_good}
-use Rattle.row.proofs.RoundTrip.{get-head-there}
+use Rattle.row.proofs.RoundTrip.{get_head_there}
 use Rattle.log.specs.Store.{clock_ok}
 use Rattle.message.specs.Messages.{Message, hello, delta, ack, ping, pong, message_ok, rows_bytes, message_bytes}
 use Rattle.message.specs.Reading.{count_within, bytes_within, get_pair, get_pairs, get_clock, get_signed, get_rows, get_body, read_message, read_frame}
@@ -144,9 +144,9 @@ module _ (s : List ℕ) (r : Row) (g : HeldGood (logged r)) where
     unfolding payload_at_lem
     payload_stands = behind s deps_at_lem deps _ deps_stand
 
-    signature-stands : drop signature_at s ≡ signature ++ q
+    signature_stands : drop signature_at s ≡ signature ++ q
     unfolding signature_at
-    signature-stands = behind s payload_at_lem payload _ payload_stands
+    signature_stands = behind s payload_at_lem payload _ payload_stands
 
     end : signature_at + length signature ≡ at + length (signed_bytes r)
     unfolding signature_at payload_at_lem deps_at_lem head deps payload signature signed_bytes unsigned_bytes
@@ -167,16 +167,16 @@ module _ (s : List ℕ) (r : Row) (g : HeldGood (logged r)) where
     unfolding payload signature
     parts =
         let p : part_of s (within payload_at_lem r.payload) ≡ r.payload = part_there s payload_at_lem r.payload _ payload_stands in
-        let w : part_of s (within signature_at r.signature) ≡ r.signature = part_there s signature_at r.signature _ signature-stands in
+        let w : part_of s (within signature_at r.signature) ≡ r.signature = part_there s signature_at r.signature _ signature_stands in
         λ i. record { stamp = r.stamp; author = r.author; seq = r.seq; deps = r.deps; payload = p i; signature = w i }
 
-    pub signed-there : got r (at + length (signed_bytes r)) ≡ get_signed s at
+    pub signed_there : got r (at + length (signed_bytes r)) ≡ get_signed s at
     unfolding get_signed head deps payload signature deps_at_lem payload_at_lem signature_at
-    signed-there =
-        on _ (sym (get-head-there s r g at _ head_stands))
+    signed_there =
+        on _ (sym (get_head_there s r g at _ head_stands))
         (on _ (sym (clock_there s deps_at_lem 16 r.deps _ (omega arith) g.few.deps g.deps deps_stand))
         (on _ (sym (bytes_within_there s payload_at_lem 1048576 256 r.payload _ (omega (arith, g.few.payload)) (omega (arith, g.few.payload)) g.few.payload payload_stands))
-        (on _ (sym (bytes_within_there s signature_at 1024 64 r.signature _ (omega (arith, g.few.signature)) (omega (arith, g.few.signature)) g.few.signature signature-stands))
+        (on _ (sym (bytes_within_there s signature_at 1024 64 r.signature _ (omega (arith, g.few.signature)) (omega (arith, g.few.signature)) g.few.signature signature_stands))
         (rw (← end, parts)))))
 
 -- ---- rows
@@ -197,7 +197,7 @@ rows_there s at (r ∷ rs) q h e =
     let f : drop at s ≡ signed_bytes r ++ (rows_bytes rs ++ q) = e ∙ append_assoc (signed_bytes r) (rows_bytes rs) q in
     let k : drop (at + length (signed_bytes r)) s ≡ rows_bytes rs ++ q = behind s at (signed_bytes r) _ f in
     let m : at + length (signed_bytes r ++ rows_bytes rs) ≡ at + length (signed_bytes r) + length (rows_bytes rs) = simp length-append (omega arith) in
-    on _ (sym (signed-there s r (row_good r (and_left _ _ h)) at _ f))
+    on _ (sym (signed_there s r (row_good r (and_left _ _ h)) at _ f))
     (on _ (sym (rows_there s (at + length (signed_bytes r)) rs q (and_right (row_ok r) (all row_ok rs) h) k)) (rw m))
 
 -- ---- messages

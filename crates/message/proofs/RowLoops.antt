@@ -56,13 +56,13 @@ module _ {s : List ℕ} {at n next i : ℕ} (g : Checking s at n next i) where
     one : checked (get_rows s n at) ≡ after (get_signed s next) (λ row end. checked (get_rows s (n - (i + 1)) end))
     one = let z : n - i ≡ suc (n - (i + 1)) = omega arith in g.same ∙ rw z (checked_more s (n - (i + 1)) next)
 
-    pub checking-stops : (r : Reading) (x : Row) {k : Refusal} → ended_by r x ≡ get_signed s next → r ≡ Refused k → ended_by r nothing ≡ checked (get_rows s n at)
-    checking-stops r x {k} e f =
+    pub checking_stops : (r : Reading) (x : Row) {k : Refusal} → ended_by r x ≡ get_signed s next → r ≡ Refused k → ended_by r nothing ≡ checked (get_rows s n at)
+    checking_stops r x {k} e f =
         let z : get_signed s next ≡ bad k = sym e ∙ ap (λ (y : Reading). ended_by y x) f in
         ap (λ (y : Reading). ended_by y nothing) f ∙ sym (one ∙ rw z)
 
-    pub checking-more : (r : Reading) (x : Row) {end : ℕ} → ended_by r x ≡ get_signed s next → r ≡ Read end → Checking s at n end (i + 1)
-    checking-more r x {end} e f =
+    pub checking_more : (r : Reading) (x : Row) {end : ℕ} → ended_by r x ≡ get_signed s next → r ≡ Read end → Checking s at n end (i + 1)
+    checking_more r x {end} e f =
         let z : get_signed s next ≡ got x end = sym e ∙ ap (λ (y : Reading). ended_by y x) f in
         record { upto = omega arith; same = one ∙ rw z }
 
@@ -147,14 +147,14 @@ module _ {s : List ℕ} {at n : ℕ} {area₀ area : List ℕ} {next i : ℕ} (g
         let w : y.1 ≡ g.end = got_next y.3 in
         record { row = x.0; stop = x.1; is = x.2; rows = y.0; behind = y.2 ∙ ap (got y.0) w; split = got_value y.3 }
 
-    pub writing-goes-on : (r : Reading) (x : Row) {k : Refusal} → ended_by r x ≡ get_signed s next → r ≡ Refused k → ⊥
-    writing-goes-on r x {k} e f =
+    pub writing_goes_on : (r : Reading) (x : Row) {k : Refusal} → ended_by r x ≡ get_signed s next → r ≡ Refused k → ⊥
+    writing_goes_on r x {k} e f =
         let z : bad k ≡ got next_row.row next_row.stop = ap (λ (y : Reading). ended_by y x) (sym f) ∙ e ∙ next_row.is in
         let w : ◌≡◌ {A = ℕ} 0 1 = cc in
         omega arith
 
-    pub slot-room : 704 * (i + 1) ≤ length area
-    slot-room = omega (arith, g.room, writing_size)
+    pub slot_room : 704 * (i + 1) ≤ length area
+    slot_room = omega (arith, g.room, writing_size)
 
     pub writing_more : (r : Reading) (o : StampedOperation) {stop : ℕ} (area' : List ℕ) → ended_by r (row_of s o) ≡ get_signed s next → r ≡ Read stop → OpFits s o
         → area' ≡ put_at area (704 * i) (encode_held (logged (row_of s o))) → Writing s at n area₀ area' stop (i + 1)

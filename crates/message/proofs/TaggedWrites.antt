@@ -38,8 +38,8 @@ module _ (s : List ℕ) (tag : ℕ) (vs : List ℕ) (h : 0 + length (tag ∷ vs)
   tag_room = omega arith
 
   module _ {at : ℕ} {t : List ℕ} (d : Stored s 0 (tag ∷ []) at t) where
-    pub behind-room : at + length vs ≤ length t
-    behind-room = rest_room vs d h
+    pub behind_room : at + length vs ≤ length t
+    behind_room = rest_room vs d h
 
     pub tagged : {n : ℕ} {u : List ℕ} → Stored t at vs n u → Stored s 0 (tag ∷ vs) n u
     tagged e = stored_then d e h
@@ -53,15 +53,15 @@ module _ (out : List ℕ) (tag : ℕ) (vs : List ℕ) {n : ℕ} (l : n ≡ lengt
     all_found : 0 + length (tag ∷ vs) ≤ length out
     all_found = found_room out 0 (tag ∷ vs) (1 + n) (tag_length tag vs l) e f
 
-    pub tag-found : 1 ≤ length out
-    tag-found = tag_room out tag vs all_found
+    pub tag_found : 1 ≤ length out
+    tag_found = tag_room out tag vs all_found
 
     module _ {at : ℕ} {t : List ℕ} (d : Stored out 0 (tag ∷ []) at t) where
-      pub behind-found : at + length vs ≤ length t
-      behind-found = behind-room out tag vs all_found d
+      pub behind_found : at + length vs ≤ length t
+      behind_found = behind_room out tag vs all_found d
 
-      pub tagged-put : {k : ℕ} {u : List ℕ} → Stored t at vs k u → ends (written_of (Next k)) u ≡ write_call out 0 (tag ∷ vs)
-      tagged-put g = put_all out 0 (tag ∷ vs) (1 + n) (tag_length tag vs l) e f (tagged out tag vs all_found d g)
+      pub tagged_put : {k : ℕ} {u : List ℕ} → Stored t at vs k u → ends (written_of (Next k)) u ≡ write_call out 0 (tag ∷ vs)
+      tagged_put g = put_all out 0 (tag ∷ vs) (1 + n) (tag_length tag vs l) e f (tagged out tag vs all_found d g)
 
   pub tagged_short : {k : Refusal} → r ≡ Refused k → ends (written_of (Refused k)) out ≡ write_call out 0 (tag ∷ vs)
   tagged_short f = put_none out 0 (tag ∷ vs) (1 + n) (tag_length tag vs l) e f
@@ -92,13 +92,13 @@ module _ (out : List ℕ) (tag : ℕ) (clock : List ℕ) where
     pub clock_sound : not b ≡ false → sound c ≡ true
     clock_sound f = sym k ∙ not-false b f
 
-    pub clock-unsound : not b ≡ true → ends (refused UnsoundStore) out ≡ encode_clock out tag clock
+    pub clock_unsound : not b ≡ true → ends (refused UnsoundStore) out ≡ encode_clock out tag clock
     unfolding encode_clock read_clock
-    clock-unsound f = rw (le-leb 520 (length clock) h, ← e, ← k, not-true b f)
+    clock_unsound f = rw (le-leb 520 (length clock) h, ← e, ← k, not-true b f)
 
-    pub clock-put : {w : Ends ℕ (List ℕ)} → not b ≡ false → w ≡ write_call out 0 (tag ∷ deps_bytes (entries c)) → w ≡ encode_clock out tag clock
+    pub clock_put : {w : Ends ℕ (List ℕ)} → not b ≡ false → w ≡ write_call out 0 (tag ∷ deps_bytes (entries c)) → w ≡ encode_clock out tag clock
     unfolding encode_clock read_clock
-    clock-put f g = rw (le-leb 520 (length clock) h, ← e, ← k, not-false b f) g
+    clock_put f g = rw (le-leb 520 (length clock) h, ← e, ← k, not-false b f) g
 
 -- ---- the messages with one
 hello_by : (out : List ℕ) (a : Answer (List (ℕ × ℕ))) → write_clock out 0 a ≡ write_message out (and_then a (λ es. done (hello es)))

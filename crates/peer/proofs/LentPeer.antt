@@ -164,8 +164,8 @@ module _ (calls : Peer → ℕ → Ends Unit Peer) (f : Name) {M : Type 1} {𝓤
         frame ! $ feq_i ! (List Val) (vptr b o ∷ []) (vptr b o ∷ []) refl $ fjoin3 ! $ nothing ! $ owned ! u64 (Is u64) (uint_Makes 𝓛 w64) n _ (refl, fits) $ fjoin ! $ move ! (1 ∷ 0 ∷ []) $ fjoin ! $
         owned ! O.the_row (Is O.the_row) (EL.makes O.the_type O'.the_plain 𝓛) r.outcome _ (outcome_is r vs is) $ move ! (1 ∷ 0 ∷ []) $ done !
 
-    changing-walk : (C : Calls 𝓤 H) (Λ : Loops 𝓤 H) → FmC 𝓤 H 𝓛.laws C → Triple 𝓤 (C f) (ByValue calls 𝓛) → ent 𝓤 (on_entry 𝓛 in_place.signature (κ, tt) (q, tt) x at) (WpFn 𝓤 H C Λ (changing f) (vptr b o ∷ vint w64 n ∷ []) Post)
-    changing-walk C Λ fm known =
+    changing_walk : (C : Calls 𝓤 H) (Λ : Loops 𝓤 H) → FmC 𝓤 H 𝓛.laws C → Triple 𝓤 (C f) (ByValue calls 𝓛) → ent 𝓤 (on_entry 𝓛 in_place.signature (κ, tt) (q, tt) x at) (WpFn 𝓤 H C Λ (changing f) (vptr b o ∷ vint w64 n ∷ []) Post)
+    changing_walk C Λ fm known =
         qed 𝓛 ((‵ (flft κ q) ⊛ ‵ ftrue) ∷ ‵ (owns (MutRef (named 0) κ T.the_row ∷ u64 ∷ []) x at) ∷ []) ∵ enter ! C Λ (changing f) (vptr b o ∷ vint w64 n ∷ []) _ $
         alloc1 ! (λ l₀. alloc1 ! (λ l₁. alloc1 ! (λ l₂. alloc1 ! (λ l₃. alloc1 ! (λ l₄. alloc0 ! $ params1 ! $ pass1 ! (init ! 6 refl (tt, tt)) $ pass1 ! (init ! 4 refl (tt, record { fits = fits })) $ pass0 ! $
         move ! (11 ∷ []) $ fsplit ! $ fsplit3 ! $ drop ! $ move ! (13 ∷ []) $ split ! $ move ! (2 ∷ 3 ∷ 0 ∷ []) $
@@ -191,7 +191,7 @@ module _ (calls : Peer → ℕ → Ends Unit Peer) (f : Name) {M : Type 1} {𝓤
   changes 𝓣 known =
       walk_Meets 𝓛 in_place changed (Goes-ref 𝓛 1 0 tt (plain (λ _. T.the_row)), (Goes-none 𝓛 1 (λ _. u64) yes (λ κs x f. refl), tt)) (in_place_clauses calls 𝓤) (WpFn 𝓤 H 𝓣.C 𝓣.Λ (changing f)) (WpFn-mono 𝓤 H 𝓛.laws 𝓣 (changing f))
       (walked 𝓛 in_place changed (in_place_clauses calls 𝓤) (WpFn 𝓤 H 𝓣.C 𝓣.Λ (changing f)) (λ κs. (mut_vals, (uint_vals w64, tt))) (λ κs. (mut_Tells (named 0) κs.0 T.the_row, (uint_Tells w64, tt)))
-      (λ κs qs bounds a _ are. via 𝓤 _ (fst∗ 𝓤 _ (emp 𝓤)) (changing-walk κs.0 qs.0 a.0.ref_ptr.0 a.0.ref_ptr.1 a.0.ghost_name a.0.now a.1.0 are.1.0.1 𝓣.C 𝓣.Λ (fm_of 𝓤 H 𝓛.laws 𝓣) known)))
+      (λ κs qs bounds a _ are. via 𝓤 _ (fst∗ 𝓤 _ (emp 𝓤)) (changing_walk κs.0 qs.0 a.0.ref_ptr.0 a.0.ref_ptr.1 a.0.ghost_name a.0.now a.1.0 are.1.0.1 𝓣.C 𝓣.Λ (fm_of 𝓤 H 𝓛.laws 𝓣) known)))
 
 -- ---- a record in a local: its cell is what a borrow of it holds
 module _ {M : Type 1} {𝓤 : Ura M} (𝓛 : Logic 𝓤) (h : Peer) (b o : ℕ) where
@@ -241,8 +241,8 @@ module _ (calls : Peer → ℕ → Ends Unit Peer) (f : Name) {M : Type 1} {𝓤
         owned ! P.the_row (Is P.the_row) (LL.makes P.the_type P'.the_plain 𝓛) r _ is $ nothing ! $ owned ! u64 (Is u64) (uint_Makes 𝓛 w64) n _ (refl, fits) $ fjoin ! $
         owned ! T.the_row (Is T.the_row) (LL.makes T.the_type T'.the_plain 𝓛) h _ ok $ fjoin ! $ nothing ! $ done !
 
-    lending-walk : (C : Calls 𝓤 H) (Λ : Loops 𝓤 H) → FmC 𝓤 H 𝓛.laws C → Triple 𝓤 (C f) (InPlace calls 𝓛) → ent 𝓤 (on_entry 𝓛 by_value.signature tt tt (h, (n, tt)) passed) (WpFn 𝓤 H C Λ (lending f) (T'.lowered h ∷ vint w64 n ∷ []) Back)
-    lending-walk C Λ fm known =
+    lending_walk : (C : Calls 𝓤 H) (Λ : Loops 𝓤 H) → FmC 𝓤 H 𝓛.laws C → Triple 𝓤 (C f) (InPlace calls 𝓛) → ent 𝓤 (on_entry 𝓛 by_value.signature tt tt (h, (n, tt)) passed) (WpFn 𝓤 H C Λ (lending f) (T'.lowered h ∷ vint w64 n ∷ []) Back)
+    lending_walk C Λ fm known =
         qed 𝓛 (‵ ftrue ∷ ‵ (owns (T.the_row ∷ u64 ∷ []) (h, (n, tt)) passed) ∷ []) ∵ enter ! C Λ (lending f) (T'.lowered h ∷ vint w64 n ∷ []) _ $
         alloc1 ! (λ l₀. alloc1 ! (λ l₁. alloc1 ! (λ l₂. alloc1 ! (λ l₃. alloc1 ! (λ l₄. alloc1 ! (λ l₅. alloc1 ! (λ l₆. alloc0 ! $ params1 ! $
         pass1 ! (init ! 10 refl ((LL.lawful T.the_type T'.the_laws 𝓛).typed h _ ok).0) $ pass1 ! (init ! 8 refl (tt, record { fits = fits })) $ pass0 ! $
@@ -274,4 +274,4 @@ module _ (calls : Peer → ℕ → Ends Unit Peer) (f : Name) {M : Type 1} {𝓤
   lends 𝓣 known =
       walk_Meets 𝓛 by_value lent (Goes-none 𝓛 0 (λ _. T.the_row) yes (λ κs x f. refl), (Goes-none 𝓛 0 (λ _. u64) yes (λ κs x f. refl), tt)) (by_value_clauses calls 𝓤) (WpFn 𝓤 H 𝓣.C 𝓣.Λ (lending f)) (WpFn-mono 𝓤 H 𝓛.laws 𝓣 (lending f))
       (walked 𝓛 by_value lent (by_value_clauses calls 𝓤) (WpFn 𝓤 H 𝓣.C 𝓣.Λ (lending f)) (λ κs. ((λ d. T'.lowered d ∷ []), (uint_vals w64, tt))) (λ κs. ((T'.lowers).val_is, (uint_Tells w64, tt)))
-      (λ κs qs bounds a _ are. via 𝓤 _ (fst∗ 𝓤 _ (emp 𝓤)) (lending-walk a.0 a.1.0 are.0 are.1.0.1 𝓣.C 𝓣.Λ (fm_of 𝓤 H 𝓛.laws 𝓣) known)))
+      (λ κs qs bounds a _ are. via 𝓤 _ (fst∗ 𝓤 _ (emp 𝓤)) (lending_walk a.0 a.1.0 are.0 are.1.0.1 𝓣.C 𝓣.Λ (fm_of 𝓤 H 𝓛.laws 𝓣) known)))

@@ -203,13 +203,13 @@ module _ (limit : ℕ) (l : List ℕ) (n : ℕ) where
     unfolding lowest_over
     seen b e = ap (lowest_over limit (take n l)) (next l n a i h k) ∙ rw (← ea, ← ec, e)
 
-    pub lowest-yes : (f : Over) → limit < count → f ≡ lower a found → Lowest f (i + 1)
+    pub lowest_yes : (f : Over) → limit < count → f ≡ lower a found → Lowest f (i + 1)
     unfolding Lowest
-    lowest-yes f t e = g ∙ ap (join found) (seen true (lt-ltb limit count t)) ∙ join_lower found _ a ∙ rw e
+    lowest_yes f t e = g ∙ ap (join found) (seen true (lt-ltb limit count t)) ∙ join_lower found _ a ∙ rw e
 
-    pub lowest-no : (f : Over) → count ≤ limit → f ≡ found → Lowest f (i + 1)
+    pub lowest_no : (f : Over) → count ≤ limit → f ≡ found → Lowest f (i + 1)
     unfolding Lowest
-    lowest-no f t e = g ∙ ap (join found) (seen false (le-ltb limit count t)) ∙ rw e
+    lowest_no f t e = g ∙ ap (join found) (seen false (le-ltb limit count t)) ∙ rw e
 
   pub lowest_end : (found : Over) (i : ℕ) → n ≤ i → n ≤ length l → Lowest found i → found ≡ lowest_over limit (take n l) (take n l)
   unfolding Lowest lowest_over
@@ -346,8 +346,8 @@ module _ (held batch : List ℕ) where
       omega (arith, f, ref_payload k o, payloads_few time r)
 
   module _ (s : List ℕ) (n limit : ℕ) where
-    pub bytes-within : refs_ok held batch (column s 0 n) ≡ true → 256 * n ≤ limit → (time : ℕ) → false ≡ ltb limit (payload_bytes (work_rows held batch time (column s 0 n)))
-    bytes-within o h time =
+    pub bytes_within_lem : refs_ok held batch (column s 0 n) ≡ true → 256 * n ≤ limit → (time : ℕ) → false ≡ ltb limit (payload_bytes (work_rows held batch time (column s 0 n)))
+    bytes_within_lem o h time =
         sym (le-ltb limit _ (omega (arith, payloads_few time (refs_of held batch (column s 0 n) o), length_cells s 0 n)))
 
     pub bytes_are : (b : ℕ) → ((time : ℕ) → b ≡ payload_bytes (work_rows held batch time (column s 0 n))) → (time : ℕ) → ltb limit b ≡ ltb limit (payload_bytes (work_rows held batch time (column s 0 n)))
@@ -366,18 +366,18 @@ module _ (l : MergeLimits) (held batch s : List ℕ) (n : ℕ) where
   quota_rows h time = rw (count_rows time, lt-leb n l.max_pending h)
 
   module _ (h : n ≤ l.max_pending) (b : Bool) (f : (time : ℕ) → b ≡ ltb l.max_pending_bytes (payload_bytes (rows time))) where
-    pub quota-bytes : b ≡ true → (time : ℕ) → refused (HeldBytes l.max_pending_bytes) ≡ quotas (limits_of l) (rows time)
+    pub quota_bytes : b ≡ true → (time : ℕ) → refused (HeldBytes l.max_pending_bytes) ≡ quotas (limits_of l) (rows time)
     unfolding quotas limits_of
-    quota-bytes k time =
+    quota_bytes k time =
         rw (count_rows time, le-leb n l.max_pending h, lt-leb (payload_bytes (rows time)) l.max_pending_bytes (ltb-true _ _ (sym (f time) ∙ k)))
 
     module _ (k : b ≡ false) where
       abbrev Lowest-is : Over → Type 0
       Lowest-is x = x ≡ lowest_over l.max_pending_per_actor (authors_of held batch (column s 0 n)) (authors_of held batch (column s 0 n))
 
-      author-quota : (x : Over) → Lowest-is x → (time : ℕ) → author_quota l.max_pending_per_actor x ≡ quotas (limits_of l) (rows time)
+      author_quota_lem : (x : Over) → Lowest-is x → (time : ℕ) → author_quota l.max_pending_per_actor x ≡ quotas (limits_of l) (rows time)
       unfolding quotas limits_of
-      author-quota x g time =
+      author_quota_lem x g time =
           let q : lowest_over l.max_pending_per_actor (authors (rows time)) (authors (rows time)) ≡ x =
           lowest_rows held batch time l.max_pending_per_actor (column s 0 n) ∙ sym g in
           rw (
@@ -387,11 +387,11 @@ module _ (l : MergeLimits) (held batch s : List ℕ) (n : ℕ) where
             q,
           )
 
-      pub quota-done : Lowest-is nobody → (time : ℕ) → done nothing ≡ quotas (limits_of l) (rows time)
+      pub quota_done : Lowest-is nobody → (time : ℕ) → done nothing ≡ quotas (limits_of l) (rows time)
       unfolding author_quota
-      quota-done g time = author-quota nobody g time
+      quota_done g time = author_quota_lem nobody g time
 
-      pub quota-over : (a : ℕ) → Lowest-is (author a) → (time : ℕ)
+      pub quota_over : (a : ℕ) → Lowest-is (author a) → (time : ℕ)
           → refused (AuthorOverflow l.max_pending_per_actor (record { 0 = a })) ≡ quotas (limits_of l) (rows time)
       unfolding author_quota
-      quota-over a g time = author-quota (author a) g time
+      quota_over a g time = author_quota_lem (author a) g time

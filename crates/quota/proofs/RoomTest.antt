@@ -146,8 +146,8 @@ module _ (held batch s : List ℕ) (m : ℕ) where
             whole = on ∙ rw o;
           }
 
-      pub run-not : (r : Refusal) → q.answer ≡ refused r → false ≡ leb (length (run true (entries c) (rows_logged held batch s m))) 32
-      run-not r t =
+      pub run_not : (r : Refusal) → q.answer ≡ refused r → false ≡ leb (length (run true (entries c) (rows_logged held batch s m))) 32
+      run_not r t =
           sym
           (lt-leb (length (run true (entries c) (rows_logged held batch s m))) 32
           (omega (arith, (grown_refused d _ q eq r t).0, run_longer (observe (entries d) a 1) (rows_left (i + 1)), ap length on)))
@@ -179,45 +179,45 @@ module _ (log head held batch scratch : List ℕ) (m n count cap : ℕ) (ec : co
   rows = rows_logged held batch scratch m
 
   module _ (s : Store) (z w : List ℕ) (d : Stored log head (capacity log) s z w) where
-    log-length : length (insert_all s rows).log ≡ count + m
-    log-length = all_length s rows ∙ omega (arith, length_logged held batch scratch m, stored_count log head _ s z w d)
+    log_length : length (insert_all s rows).log ≡ count + m
+    log_length = all_length s rows ∙ omega (arith, length_logged held batch scratch m, stored_count log head _ s z w d)
 
-    marks-length : length (insert_all s rows).marks ≡ length (run true (marked (marks_in head)) rows)
-    marks-length =
+    marks_length : length (insert_all s rows).marks ≡ length (run true (marked (marks_in head)) rows)
+    marks_length =
         let e : marks_in head ≡ s.marks = stored_marks log head _ s z w d in
         let r : rising 0 (marked s.marks) ≡ true = rising_marked 0 s.marks ∙ (kept s d.kept).marks_rise_lem in
         rw e (run_authors s (marked s.marks) rows (rises_of 0 _ r) (authors_marked s.marks))
 
   pub room_full : cap < count + m → Rooms log head rows n (refused LogFull)
   room_full h = record {
-    is = λ s z w d e. sym (ap unit_of (fits_full (capacity log) (insert_all s rows) (omega (arith, log-length s z w d))));
+    is = λ s z w d e. sym (ap unit_of (fits_full (capacity log) (insert_all s rows) (omega (arith, log_length s z w d))));
   }
 
   module _ (h : count + m ≤ cap) where
-    pub room-clock : 32 < n → Rooms log head rows n (refused AuthorsFull)
-    room-clock k = record {
+    pub room_clock : 32 < n → Rooms log head rows n (refused AuthorsFull)
+    room_clock k = record {
       is = λ s z w d e.
-          sym (ap unit_of (fits_authors (capacity log) (insert_all s rows) (omega (arith, log-length s z w d)) (rw (lt-leb (length (insert_all s rows).clock) 32 (omega arith)))));
+          sym (ap unit_of (fits_authors (capacity log) (insert_all s rows) (omega (arith, log_length s z w d)) (rw (lt-leb (length (insert_all s rows).clock) 32 (omega arith)))));
     }
 
     module _ (k : n ≤ 32) (b : Bool) (eb : b ≡ leb (length (run true (marked (marks_in head)) rows)) 32) where
-      marks-told : (s : Store) (z w : List ℕ) → Stored log head (capacity log) s z w → leb (length (insert_all s rows).marks) 32 ≡ b
-      marks-told s z w d = rw (marks-length s z w d) (sym eb)
+      marks_told : (s : Store) (z w : List ℕ) → Stored log head (capacity log) s z w → leb (length (insert_all s rows).marks) 32 ≡ b
+      marks_told s z w d = rw (marks_length s z w d) (sym eb)
 
-      pub room-marks : not b ≡ true → Rooms log head rows n (refused AuthorsFull)
-      room-marks t = record {
+      pub room_marks : not b ≡ true → Rooms log head rows n (refused AuthorsFull)
+      room_marks t = record {
         is = λ s z w d e.
             sym
             (ap unit_of
-            (fits_authors (capacity log) (insert_all s rows) (omega (arith, log-length s z w d))
-            (rw (le-leb (length (insert_all s rows).clock) 32 (omega arith), marks-told s z w d, not-true b t))));
+            (fits_authors (capacity log) (insert_all s rows) (omega (arith, log_length s z w d))
+            (rw (le-leb (length (insert_all s rows).clock) 32 (omega arith), marks_told s z w d, not-true b t))));
       }
 
-      pub room-done : not b ≡ false → Rooms log head rows n (done nothing)
-      room-done t = record {
+      pub room_done : not b ≡ false → Rooms log head rows n (done nothing)
+      room_done t = record {
         is = λ s z w d e.
             sym
             (ap unit_of
-            (fits_done (capacity log) (insert_all s rows) (omega (arith, log-length s z w d)) (omega arith)
-            (leb-true (length (insert_all s rows).marks) 32 (marks-told s z w d ∙ not-false b t))));
+            (fits_done (capacity log) (insert_all s rows) (omega (arith, log_length s z w d)) (omega arith)
+            (leb-true (length (insert_all s rows).marks) 32 (marks_told s z w d ∙ not-false b t))));
       }

@@ -101,9 +101,9 @@ module _ (s : List ℕ) (r : Row) (g : HeldGood (logged r)) where
     seq : List ℕ
     seq = shortest r.seq
 
-    pub get-head-there : got (record { stamp = r.stamp; author = r.author; seq = r.seq }) (at + length (stamped_bytes r)) ≡ get_head s at
+    pub get_head_there : got (record { stamp = r.stamp; author = r.author; seq = r.seq }) (at + length (stamped_bytes r)) ≡ get_head s at
     unfolding get_head stamped_bytes wall counter stamper author seq
-    get-head-there =
+    get_head_there =
         let e1 : drop at s ≡ wall ++ (counter ++ (stamper ++ (author ++ (seq ++ q)))) = e ∙ simp append_assoc in
         let e2 : drop (at + length wall) s ≡ counter ++ (stamper ++ (author ++ (seq ++ q))) = behind s at wall _ e1 in
         let e3 : drop (at + length wall + length counter) s ≡ stamper ++ (author ++ (seq ++ q)) = behind s (at + length wall) counter _ e2 in
@@ -120,9 +120,9 @@ module _ (s : List ℕ) (r : Row) (g : HeldGood (logged r)) where
         (on _ (varint_there s (at + length wall + length counter + length stamper + length author) _ _ g.seq e5)
         (rw m)))))
 
-    pub head-there : got (record { stamp = r.stamp; author = r.author; seq = r.seq }) (at + length (stamped_bytes r)) ≡ read_head s at
+    pub head_there : got (record { stamp = r.stamp; author = r.author; seq = r.seq }) (at + length (stamped_bytes r)) ≡ read_head s at
     unfolding read_head
-    head-there = ap unreadable get-head-there
+    head_there = ap unreadable get_head_there
 
   -- the whole row
   module _ (v o d at : ℕ) (q : List ℕ) (hv : v ≤ 1) (ho : outcome_ok o d ≡ true) (e : drop at s ≡ signed_bytes r ++ (v ∷ o ∷ d ∷ q)) where
@@ -165,20 +165,20 @@ module _ (s : List ℕ) (r : Row) (g : HeldGood (logged r)) where
     unfolding payload_at_lem
     payload_stands = behind s deps_at_lem deps _ deps_stand
 
-    signature-stands : drop signature_at s ≡ signature ++ close
+    signature_stands : drop signature_at s ≡ signature ++ close
     unfolding signature_at
-    signature-stands = behind s payload_at_lem payload _ payload_stands
+    signature_stands = behind s payload_at_lem payload _ payload_stands
 
     closing_stands : drop closing_at s ≡ v ∷ o ∷ d ∷ q
     unfolding closing_at close
-    closing_stands = behind s signature_at signature _ signature-stands
+    closing_stands = behind s signature_at signature _ signature_stands
 
     parts : batch_row s (record { stamp = r.stamp; author = r.author; seq = r.seq }) r.deps (within payload_at_lem r.payload) (within signature_at r.signature) (record { verdict = v; outcome = o; detail = d })
         ≡ record { row = r; closing = record { verdict = v; outcome = o; detail = d } }
     unfolding payload signature
     parts =
         let p : part_of s (within payload_at_lem r.payload) ≡ r.payload = part_there s payload_at_lem r.payload _ payload_stands in
-        let g : part_of s (within signature_at r.signature) ≡ r.signature = part_there s signature_at r.signature _ signature-stands in
+        let g : part_of s (within signature_at r.signature) ≡ r.signature = part_there s signature_at r.signature _ signature_stands in
         λ i. record {
           row = record { stamp = r.stamp; author = r.author; seq = r.seq; deps = r.deps; payload = p i; signature = g i };
           closing = record { verdict = v; outcome = o; detail = d };
@@ -192,20 +192,20 @@ module _ (s : List ℕ) (r : Row) (g : HeldGood (logged r)) where
         simp length-append in
         omega (arith, length_signed r)
 
-    pub row-there : read_row s at ≡ got (record { row = r; closing = record { verdict = v; outcome = o; detail = d } }) (at + signed_len r + 3)
+    pub row_there : read_row s at ≡ got (record { row = r; closing = record { verdict = v; outcome = o; detail = d } }) (at + signed_len r + 3)
     unfolding read_row head deps payload signature deps_at_lem payload_at_lem signature_at closing_at
-    row-there =
+    row_there =
         sym
-        (on _ (sym (head-there at _ head_stands))
+        (on _ (sym (head_there at _ head_stands))
         (on _ (sym (deps_there s deps_at_lem r.deps _ g.few.deps g.deps deps_stand))
         (on _ (sym (sized_there s payload_at_lem 256 r.payload _ (omega (arith, g.few.payload)) g.few.payload payload_stands))
-        (on _ (sym (sized_there s signature_at 64 r.signature _ (omega (arith, g.few.signature)) g.few.signature signature-stands))
+        (on _ (sym (sized_there s signature_at 64 r.signature _ (omega (arith, g.few.signature)) g.few.signature signature_stands))
         (on _ (sym (closing_there s closing_at v o d q hv ho closing_stands))
         (rw (← end, parts)))))))
 
 -- what is written of a row that keeps the rules, with a closing that does, is read as this row
 pub read_back : ReadBack
 read_back p q r v o d h hv ho =
-    row-there (p ++ ((signed_bytes r ++ (v ∷ o ∷ d ∷ [])) ++ q)) r (row_good r h) v o d (length p) q hv ho
+    row_there (p ++ ((signed_bytes r ++ (v ∷ o ∷ d ∷ [])) ++ q)) r (row_good r h) v o d (length p) q hv ho
     (drop-append_seam p ((signed_bytes r ++ (v ∷ o ∷ d ∷ [])) ++ q) ∙ append_assoc (signed_bytes r) (v ∷ o ∷ d ∷ []) q)
     ∙ rw (length_signed r)

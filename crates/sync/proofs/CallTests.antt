@@ -146,9 +146,9 @@ module _ (a : Areas) (peer output left : List ℕ) (f : Store → List (ℕ × �
   list_refused q e o = rw (over_stops a peer _ q e) (λ i. ends (refused q) (o i))
 
   module _ (n : ℕ) (k : Counted a peer n) where
-    pub list-short : length output / 8 < n → left ≡ output → ends (refused ShortArea) left ≡ list_call a peer output f
+    pub list_short : length output / 8 < n → left ≡ output → ends (refused ShortArea) left ≡ list_call a peer output f
     unfolding list_call
-    list-short h o = rw (over_goes a peer _ n k, decode_count a, ← k.count, lt-leb (8 * n) (length output) (omega arith)) (λ i. ends (refused ShortArea) (o i))
+    list_short h o = rw (over_goes a peer _ n k, decode_count a, ← k.count, lt-leb (8 * n) (length output) (omega arith)) (λ i. ends (refused ShortArea) (o i))
 
     list_done : (m : ℕ) → 8 * n ≤ length output → Puts output (f (decode_store a) (entries (clock_at peer 0))) m left → ends (done m) left ≡ list_call a peer output f
     unfolding list_call

@@ -42,9 +42,9 @@ module _ (a : Areas) (peer output left : List ℕ) (per bytes sender sig_len : �
   sizes_capacity h o = rw (lt-leb sig_len 1024 h) (λ i. ends (refused OverCapacity) (o i))
 
   module _ (h : sig_len ≤ 1024) where
-    pub sizes-refused : (q : Refusal) → refused q ≡ count_call a peer → left ≡ output → ends (refused q) left ≡ sizes_call a peer per bytes sender sig_len output
+    pub sizes_refused : (q : Refusal) → refused q ≡ count_call a peer → left ≡ output → ends (refused q) left ≡ sizes_call a peer per bytes sender sig_len output
     unfolding sizes_call sizes_answer
-    sizes-refused q e o = rw (le-leb sig_len 1024 h, over_stops a peer _ q e) (λ i. ends (refused q) (o i))
+    sizes_refused q e o = rw (le-leb sig_len 1024 h, over_stops a peer _ q e) (λ i. ends (refused q) (o i))
 
     module _ (n most : ℕ) (c : VectorClock) (k : Counted a peer n) (e : c ≡ clock_at peer 0) (q : most ≡ at_least_one per) where
       abbrev rows : List Row
@@ -59,14 +59,14 @@ module _ (a : Areas) (peer output left : List ℕ) (per bytes sender sig_len : �
       many = length_sizes rows per bytes sender sig_len ∙ rw q
 
       module _ (b : Bool) (f : b ≡ leb (16 * length (chunks most bytes 0 0 rows)) (length output)) where
-        pub sizes-short : not b ≡ true → left ≡ output → ends (refused ShortArea) left ≡ sizes_call a peer per bytes sender sig_len output
+        pub sizes_short : not b ≡ true → left ≡ output → ends (refused ShortArea) left ≡ sizes_call a peer per bytes sender sig_len output
         unfolding sizes_call fitting
-        sizes-short t o = rw (goes, many, ← f, not-true b t) (λ i. ends (refused ShortArea) (o i))
+        sizes_short t o = rw (goes, many, ← f, not-true b t) (λ i. ends (refused ShortArea) (o i))
 
-        pub sizes-done : (m : ℕ) → not b ≡ false → Puts output (to_come most bytes sender sig_len [] rows) (2 * m) left
+        pub sizes_done : (m : ℕ) → not b ≡ false → Puts output (to_come most bytes sender sig_len [] rows) (2 * m) left
             → ends (done m) left ≡ sizes_call a peer per bytes sender sig_len output
         unfolding sizes_call fitting delta_sizes chunk_ops sizes
-        sizes-done m t p =
+        sizes_done m t p =
             let z : m ≡ length (chunks most bytes 0 0 rows) = omega (arith, p.count, length_come most bytes sender sig_len rows) in
             let w : m ≡ length (delta_sizes rows per bytes sender sig_len) = z ∙ sym many in
             let l : leb (16 * length (delta_sizes rows per bytes sender sig_len)) (length output) ≡ true = rw many (sym f ∙ not-false b t) in

@@ -35,7 +35,7 @@ use Rattle.sync.specs.Sizes.{Figures, cut, figures_of, figures_of_each, numbers}
 use Rattle.sync.specs.Inside.DeltaSteps.{Puts, starts_next}
 use Rattle.sync.specs.Inside.SizeSteps.{RowSizes, delta_length, to_come}
 use Rattle.sync.proofs.NumberList.{Listing, listing_start, listing_puts, listing_room, listing_on, listing_end}
-use Rattle.sync.proofs.DeltaLoops.{size_is, next_some, chunks_next, chunks_same, chunks_none, chunks_last, lacking_from, lacking_start, lacking-skip, lacking-next, lacking-end}
+use Rattle.sync.proofs.DeltaLoops.{size_is, next_some, chunks_next, chunks_same, chunks_none, chunks_last, lacking_from, lacking_start, lacking_skip, lacking_next, lacking_end}
 use Rattle.sync.proofs.DeltaTheorems.{sizes_append, sizes_one}
 
 -- ---- how many numbers there are
@@ -158,14 +158,14 @@ module _ (s : List ℕ) (n : ℕ) (es : List (ℕ × ℕ)) (most bytes sender si
       }
 
   module _ (out₀ out : List ℕ) (i k count size len : ℕ) (g : Sizing s n es most bytes sender sig_len out₀ out i k count size len) where
-    pub sizing-skip : i < n → false ≡ unseen es (row_at s (704 * i)) → Sizing s n es most bytes sender sig_len out₀ out (i + 1) k count size len
-    sizing-skip h e =
+    pub sizing_skip : i < n → false ≡ unseen es (row_at s (704 * i)) → Sizing s n es most bytes sender sig_len out₀ out (i + 1) k count size len
+    sizing_skip h e =
         record {
           current = g.current;
           count_is = g.count_is;
           size_is = g.size_is;
           len_is = g.len_is;
-          listing = listing_on g.listing _ (ap (to_come most bytes sender sig_len g.current) (lacking-skip s n es i h e));
+          listing = listing_on g.listing _ (ap (to_come most bytes sender sig_len g.current) (lacking_skip s n es i h e));
           behind = omega (arith, g.behind);
           small = omega (arith, g.small);
           short = omega (arith, g.short);
@@ -184,32 +184,32 @@ module _ (s : List ℕ) (n : ℕ) (es : List (ℕ × ℕ)) (most bytes sender si
         room_at : 16 * k + 16 ≤ length out
         room_at = omega (arith, g.listing.same, room_for)
 
-        put-at : (t : List ℕ) → t ≡ put_at out (16 * k) (bes (count ∷ v ∷ [])) → Listing out₀ t (to_come most bytes sender sig_len [] (delta_rows es (rows_in s n))) rest (2 * (k + 1))
-        put-at t p =
+        put_at_lem : (t : List ℕ) → t ≡ put_at out (16 * k) (bes (count ∷ v ∷ [])) → Listing out₀ t (to_come most bytes sender sig_len [] (delta_rows es (rows_in s n))) rest (2 * (k + 1))
+        put_at_lem t p =
             let y : 16 * k ≡ 8 * (2 * k) = omega arith in
             let z : 2 * k + 2 ≡ 2 * (k + 1) = omega arith in
             rw (← z) (listing_puts g.listing t rest (count ∷ v ∷ []) e room_for (rw y at p))
 
       -- at a row that starts the next
       module _ (h : i < n) (e : true ≡ unseen es (row_at s (704 * i))) (row more : ℕ) (z : RowSizes (row_at s (704 * i)) row more) (x : true ≡ starts_next most bytes count (size + row)) where
-        ends-before : to_come most bytes sender sig_len g.current (lacking_from s n es i) ≡ (count ∷ v ∷ []) ++ to_come most bytes sender sig_len (row_at s (704 * i) ∷ []) (lacking_from s n es (i + 1))
-        ends-before =
-            ap (to_come most bytes sender sig_len g.current) (lacking-next s n es i h e)
+        ends_before : to_come most bytes sender sig_len g.current (lacking_from s n es i) ≡ (count ∷ v ∷ []) ++ to_come most bytes sender sig_len (row_at s (704 * i) ∷ []) (lacking_from s n es (i + 1))
+        ends_before =
+            ap (to_come most bytes sender sig_len g.current) (lacking_next s n es i h e)
             ∙ come_next most bytes sender sig_len g.current _ _ (rw (g.count_is, g.size_is, z.size_is) at x)
             ∙ rw (frame, ← g.count_is, ← w)
 
-        pub sizing-room : 16 * k + 16 ≤ length out
-        sizing-room = room_at _ ends-before
+        pub sizing_room : 16 * k + 16 ≤ length out
+        sizing_room = room_at _ ends_before
 
-        pub sizing-put : (t : List ℕ) → t ≡ put_at out (16 * k) (bes (count ∷ v ∷ [])) → Sizing s n es most bytes sender sig_len out₀ t (i + 1) (k + 1) 1 row more
-        sizing-put t p =
+        pub sizing_put : (t : List ℕ) → t ≡ put_at out (16 * k) (bes (count ∷ v ∷ [])) → Sizing s n es most bytes sender sig_len out₀ t (i + 1) (k + 1) 1 row more
+        sizing_put t p =
             let c : 0 < count = next_some most bytes count (size + row) x in
             record {
               current = row_at s (704 * i) ∷ [];
               count_is = refl;
               size_is = z.size_is ∙ sym (sizes_one _);
               len_is = z.bytes_is ∙ sym (bytes_one _);
-              listing = put-at _ ends-before t p;
+              listing = put_at_lem _ ends_before t p;
               behind = omega (arith, g.behind);
               small = omega (arith, z.size_few);
               short = omega (arith, z.bytes_few);
@@ -220,24 +220,24 @@ module _ (s : List ℕ) (n : ℕ) (es : List (ℕ × ℕ)) (most bytes sender si
       module _ (h : n ≤ i) (e : count ≡ 0 → ⊥) where
         ends_last : to_come most bytes sender sig_len g.current (lacking_from s n es i) ≡ (count ∷ v ∷ []) ++ []
         ends_last =
-            ap (to_come most bytes sender sig_len g.current) (lacking-end s n es i h)
+            ap (to_come most bytes sender sig_len g.current) (lacking_end s n es i h)
             ∙ come_last most bytes sender sig_len g.current (λ q. e (g.count_is ∙ q))
             ∙ rw (frame, ← g.count_is, ← w)
 
-        pub last-room : 16 * k + 16 ≤ length out
-        last-room = room_at [] ends_last
+        pub last_room : 16 * k + 16 ≤ length out
+        last_room = room_at [] ends_last
 
-        pub sizing-last : (t : List ℕ) → t ≡ put_at out (16 * k) (bes (count ∷ v ∷ [])) → Puts out₀ (to_come most bytes sender sig_len [] (delta_rows es (rows_in s n))) (2 * (k + 1)) t
-        sizing-last t p = listing_end (put-at [] ends_last t p) refl
+        pub sizing_last : (t : List ℕ) → t ≡ put_at out (16 * k) (bes (count ∷ v ∷ [])) → Puts out₀ (to_come most bytes sender sig_len [] (delta_rows es (rows_in s n))) (2 * (k + 1)) t
+        sizing_last t p = listing_end (put_at_lem [] ends_last t p) refl
 
-    pub sizing-none : n ≤ i → count ≡ 0 → Puts out₀ (to_come most bytes sender sig_len [] (delta_rows es (rows_in s n))) (2 * k) out
-    sizing-none h e =
+    pub sizing_none : n ≤ i → count ≡ 0 → Puts out₀ (to_come most bytes sender sig_len [] (delta_rows es (rows_in s n))) (2 * k) out
+    sizing_none h e =
         listing_end g.listing
-        (ap (to_come most bytes sender sig_len g.current) (lacking-end s n es i h) ∙ come_none most bytes sender sig_len g.current (sym g.count_is ∙ e))
+        (ap (to_come most bytes sender sig_len g.current) (lacking_end s n es i h) ∙ come_none most bytes sender sig_len g.current (sym g.count_is ∙ e))
 
     module _ (h : i < n) (e : true ≡ unseen es (row_at s (704 * i))) (row more : ℕ) (z : RowSizes (row_at s (704 * i)) row more) where
-      pub sizing-grow : false ≡ starts_next most bytes count (size + row) → Sizing s n es most bytes sender sig_len out₀ out (i + 1) k (count + 1) (size + row) (len + more)
-      sizing-grow x =
+      pub sizing_grow : false ≡ starts_next most bytes count (size + row) → Sizing s n es most bytes sender sig_len out₀ out (i + 1) k (count + 1) (size + row) (len + more)
+      sizing_grow x =
           let r = row_at s (704 * i) in
           record {
             current = g.current ++ (r ∷ []);
@@ -246,7 +246,7 @@ module _ (s : List ℕ) (n : ℕ) (es : List (ℕ × ℕ)) (most bytes sender si
             len_is = omega (arith, g.len_is, z.bytes_is, bytes_more g.current r, bytes_one r);
             listing =
                 listing_on g.listing _
-                (ap (to_come most bytes sender sig_len g.current) (lacking-next s n es i h e)
+                (ap (to_come most bytes sender sig_len g.current) (lacking_next s n es i h e)
                 ∙ come_same most bytes sender sig_len g.current _ _ (rw (g.count_is, g.size_is, z.size_is) at x));
             behind = omega (arith, g.behind);
             small = omega (arith, g.small, z.size_few);

@@ -130,8 +130,8 @@ module _ {c : List (ℕ × ℕ)} {held batch s₀ ks₀ : List ℕ} {n first row
     read_one : is_read (read_rows batch at (suc (rows - (i + 1)))) ≡ true
     read_one = rw one at g.read
 
-    needs-one : Working held batch s left × (is_read (read_row batch at) ≡ true) × (16 * left + 16 ≤ length s) × (5 * left + 5 ≤ length ks)
-    needs-one = (
+    needs_one : Working held batch s left × (is_read (read_row batch at) ≡ true) × (16 * left + 16 ≤ length s) × (5 * left + 5 ≤ length ks)
+    needs_one = (
       record { room = omega (arith, g.room, g.total, g.same); refs = g.refs },
       row_is_read batch (rows - (i + 1)) at read_one,
       omega (arith, g.room, g.total, g.same),
@@ -153,9 +153,9 @@ module _ {c : List (ℕ × ℕ)} {held batch s₀ ks₀ : List ℕ} {n first row
           let r : rows_in (read_rows batch at (rows - i)) ≡ b ∷ rows_in (read_rows batch (start_of batch first (i + 1)) (rows - (i + 1))) = rw one rest.1 in
           rw r at (g.whole time)
 
-    entering-duplicate : (t us : List ℕ) → length us ≡ length ks → Admits c held batch s t us left at answer.Duplicate
+    entering_duplicate : (t us : List ℕ) → length us ≡ length ks → Admits c held batch s t us left at answer.Duplicate
         → Entering c held batch s₀ ks₀ n first rows t us left (duplicates + 1) (i + 1)
-    entering-duplicate t us lk (is_duplicate b next e f q y) = record {
+    entering_duplicate t us lk (is_duplicate b next e f q y) = record {
       same = ap length q ∙ g.same;
       same_keys = lk ∙ g.same_keys;
       turn = omega arith;
@@ -170,9 +170,9 @@ module _ {c : List (ℕ × ℕ)} {held batch s₀ ks₀ : List ℕ} {n first row
       whole = λ time. rw q (rw (f time duplicates) at (unrolled b next e time));
     }
 
-    entering-entered : (t us : List ℕ) → length t ≡ length s → length us ≡ length ks → Admits c held batch s t us left at answer.Entered
+    entering_entered : (t us : List ℕ) → length t ≡ length s → length us ≡ length ks → Admits c held batch s t us left at answer.Entered
         → Entering c held batch s₀ ks₀ n first rows t us (left + 1) duplicates (i + 1)
-    entering-entered t us len lk (is_entered b next e f r y) = record {
+    entering_entered t us len lk (is_entered b next e f r y) = record {
       same = len ∙ g.same;
       same_keys = lk ∙ g.same_keys;
       turn = omega arith;
@@ -187,10 +187,10 @@ module _ {c : List (ℕ × ℕ)} {held batch s₀ ks₀ : List ℕ} {n first row
       whole = λ time. rw (f time duplicates) at (unrolled b next e time);
     }
 
-    entering-conflict : (t us : List ℕ) (actor : ActorId) (seq : ℕ) → Admits c held batch s t us left at (answer.Conflict actor seq)
+    entering_conflict : (t us : List ℕ) (actor : ActorId) (seq : ℕ) → Admits c held batch s t us left at (answer.Conflict actor seq)
         → (time : ℕ) (bs : List BatchRow) (end : ℕ) → read_rows batch first rows ≡ got bs end
         → AdmitsAll c held batch time s₀ t n bs (Refused (refusal.Conflict actor seq))
-    entering-conflict t us actor seq (is_conflict b next e f) time bs end q = record {
+    entering_conflict t us actor seq (is_conflict b next e f) time bs end q = record {
       answer = rw (f time duplicates) at (unrolled b next e time) ∙ ap (λ (l : List BatchRow). admit_all c time (admitted held batch time (column s₀ 0 n) 0) l) (in_all bs end q);
       refs = omega arith;
     }
@@ -216,24 +216,24 @@ module _ {c : List (ℕ × ℕ)} {held batch starts s₀ ks₀ : List ℕ} {n ro
   begun w = g.from w.first w.starts_are w.read
 
   module _ (h : i < rows) where
-    pub begun-needs : Begun batch starts rows
+    pub begun_needs : Begun batch starts rows
         → Working held batch s left × (is_read (read_row batch (get_or starts i 0)) ≡ true) × (16 * left + 16 ≤ length s) × (5 * left + 5 ≤ length ks)
-    begun-needs w = rw (w.starts_are i h) (needs-one (begun w) w.read h)
+    begun_needs w = rw (w.starts_are i h) (needs_one (begun w) w.read h)
 
-    pub enters-duplicate : (t us : List ℕ) → length us ≡ length ks → Admits c held batch s t us left (get_or starts i 0) answer.Duplicate
+    pub enters_duplicate : (t us : List ℕ) → length us ≡ length ks → Admits c held batch s t us left (get_or starts i 0) answer.Duplicate
         → Enters c held batch starts s₀ ks₀ n rows t us left (duplicates + 1) (i + 1)
-    enters-duplicate t us lk a = record { from = λ first st rd. entering-duplicate (g.from first st rd) rd h t us lk (rw (st i h) at a) }
+    enters_duplicate t us lk a = record { from = λ first st rd. entering_duplicate (g.from first st rd) rd h t us lk (rw (st i h) at a) }
 
-    pub enters-entered : (t us : List ℕ) → length t ≡ length s → length us ≡ length ks → Admits c held batch s t us left (get_or starts i 0) answer.Entered
+    pub enters_entered : (t us : List ℕ) → length t ≡ length s → length us ≡ length ks → Admits c held batch s t us left (get_or starts i 0) answer.Entered
         → Enters c held batch starts s₀ ks₀ n rows t us (left + 1) duplicates (i + 1)
-    enters-entered t us len lk a = record { from = λ first st rd. entering-entered (g.from first st rd) rd h t us len lk (rw (st i h) at a) }
+    enters_entered t us len lk a = record { from = λ first st rd. entering_entered (g.from first st rd) rd h t us len lk (rw (st i h) at a) }
 
-    pub enters-conflict : (t us : List ℕ) (actor : ActorId) (seq : ℕ) → Admits c held batch s t us left (get_or starts i 0) (answer.Conflict actor seq)
+    pub enters_conflict : (t us : List ℕ) (actor : ActorId) (seq : ℕ) → Admits c held batch s t us left (get_or starts i 0) (answer.Conflict actor seq)
         → (time first : ℕ) (bs : List BatchRow) (end : ℕ) → StartsAt batch starts first rows → read_rows batch first rows ≡ got bs end
         → AdmitsAll c held batch time s₀ t n bs (Refused (refusal.Conflict actor seq))
-    enters-conflict t us actor seq a time first bs end st e =
+    enters_conflict t us actor seq a time first bs end st e =
         let rd : is_read (read_rows batch first rows) ≡ true = rw e in
-        entering-conflict (g.from first st rd) rd h t us actor seq (rw (st i h) at a) time bs end e
+        entering_conflict (g.from first st rd) rd h t us actor seq (rw (st i h) at a) time bs end e
 
 pub answered : {c : List (ℕ × ℕ)} {held batch s t us : List ℕ} {n at : ℕ} {a b : Admit} → a ≡ b → Admits c held batch s t us n at a → Admits c held batch s t us n at b
 answered e v = rw e at v
@@ -281,17 +281,17 @@ module _ {held s : List ℕ} {count cutoff n i : ℕ} (g : Lasting held s count 
       }
 
   module _ (h : i < count) (arrived : ℕ) (ea : arrived ≡ get64 held (704 * i + 64)) where
-    arrival-is : (decode_held (slot_at held (704 * i))).arrival ≡ arrived
+    arrival_is : (decode_held (slot_at held (704 * i))).arrival ≡ arrived
     unfolding decode_held
-    arrival-is = word_part held (704 * i) 704 64 (omega arith) ∙ sym ea
+    arrival_is = word_part held (704 * i) 704 64 (omega arith) ∙ sym ea
 
     first : (b : Bool) → leb cutoff arrived ≡ b → unexpired cutoff (slots_at held (704 * i) (count - i))
         ≡ pick b ((decode_held (slot_at held (704 * i))) ∷ (unexpired cutoff (slots_at held (704 * (i + 1)) (count - (i + 1))))) (unexpired cutoff (slots_at held (704 * (i + 1)) (count - (i + 1))))
     unfolding unexpired in_time
-    first b e = rw (slots_next held count i h, arrival-is, e)
+    first b e = rw (slots_next held count i h, arrival_is, e)
 
-    pub lasting-past : arrived < cutoff → Lasting held s count cutoff n (i + 1)
-    lasting-past l = record {
+    pub lasting_past : arrived < cutoff → Lasting held s count cutoff n (i + 1)
+    lasting_past l = record {
       turn = omega arith;
       few = omega (arith, g.few);
       refs = g.refs;
@@ -305,8 +305,8 @@ module _ {held s : List ℕ} {count cutoff n i : ℕ} (g : Lasting held s count 
           let f : get64 t (0 + 16 * n) ≡ i = ap (get64 t) (omega arith) ∙ w.here in
           rw (cells_more t 0 n, a, f)
 
-      pub lasting-kept : cutoff ≤ arrived → i < 64 → slot_ok (slot_at held (704 * i)) ≡ true → Lasting held t count cutoff (n + 1) (i + 1)
-      lasting-kept l f o = record {
+      pub lasting_kept : cutoff ≤ arrived → i < 64 → slot_ok (slot_at held (704 * i)) ≡ true → Lasting held t count cutoff (n + 1) (i + 1)
+      lasting_kept l f o = record {
         turn = omega arith;
         few = omega (arith, g.few);
         refs = λ batch. rw kept (refs_snoc (g.refs batch) i (held_ok_lem held batch i f o));

@@ -92,15 +92,15 @@ module _ (p q : Deps) (pa : length p.authors ≡ 16) (pn : length p.numbers ≡ 
       ))
 
   module _ (i : ℕ) (f : p.count ≡ q.count) (h : i < p.count) where
-    pub deps-author : (get_or p.authors i 0 ≡ get_or q.authors i 0 → ⊥) → LeftDeps p q i → false ≡ same_entries (deps_of p) (deps_of q)
+    pub deps_author : (get_or p.authors i 0 ≡ get_or q.authors i 0 → ⊥) → LeftDeps p q i → false ≡ same_entries (deps_of p) (deps_of q)
     unfolding LeftDeps same_entries
-    deps-author ne inv =
+    deps_author ne inv =
         sym (inv ∙ rw (value_next p pa pn fp i h, value_next q qa qn fq i (omega arith), ne_eqb (get_or p.authors i 0) (get_or q.authors i 0) ne))
 
-    pub deps-number : get_or p.authors i 0 ≡ get_or q.authors i 0 → (get_or p.numbers i 0 ≡ get_or q.numbers i 0 → ⊥) → LeftDeps p q i
+    pub deps_number : get_or p.authors i 0 ≡ get_or q.authors i 0 → (get_or p.numbers i 0 ≡ get_or q.numbers i 0 → ⊥) → LeftDeps p q i
         → false ≡ same_entries (deps_of p) (deps_of q)
     unfolding LeftDeps same_entries
-    deps-number e ne inv =
+    deps_number e ne inv =
         sym (inv ∙ rw (
           value_next p pa pn fp i h,
           value_next q qa qn fq i (omega arith),
@@ -142,20 +142,20 @@ module _ (a b : StampedOperation) (p q : List ℕ) (x : Bool) (ex : x ≡ same_s
   not_stamp t = rw (← ex, not-true x t)
 
   module _ (tx : not x ≡ false) (y : Bool) (ey : y ≡ same_entries (deps_of a.deps) (deps_of b.deps)) where
-    pub not-deps : not y ≡ true → false ≡ Same
+    pub not_deps : not y ≡ true → false ≡ Same
     unfolding same_content row_of
-    not-deps t = rw (← ex, not-false x tx, ← ey, not-true y t)
+    not_deps t = rw (← ex, not-false x tx, ← ey, not-true y t)
 
     module _ (ty : not y ≡ false) (z : Bool)
         (ez : z ≡ same (take a.payload_len (drop a.payload_at p)) (take b.payload_len (drop b.payload_at q))) where
-      pub not-payload : not z ≡ true → false ≡ Same
+      pub not_payload : not z ≡ true → false ≡ Same
       unfolding same_content row_of
-      not-payload t = rw (← ex, not-false x tx, ← ey, not-false y ty, ← ez, not-true z t)
+      not_payload t = rw (← ex, not-false x tx, ← ey, not-false y ty, ← ez, not-true z t)
 
-      pub as-signatures : not z ≡ false → (w : Bool)
+      pub as_signatures : not z ≡ false → (w : Bool)
           → w ≡ same (take a.signature_len (drop a.signature_at p)) (take b.signature_len (drop b.signature_at q)) → w ≡ Same
       unfolding same_content row_of
-      as-signatures tz w ew = rw (← ex, not-false x tx, ← ey, not-false y ty, ← ez, not-false z tz) ew
+      as_signatures tz w ew = rw (← ex, not-false x tx, ← ey, not-false y ty, ← ez, not-false z tz) ew
 
 -- ---- keys
 front_less : (xs ys us vs : List ℕ) → length xs ≡ length ys → less xs ys ≡ true → less (xs ++ us) (ys ++ vs) ≡ true
@@ -189,9 +189,9 @@ module _ (a b : Key) (x : Bool) (ex : x ≡ stamp_less a.stamp b.stamp) where
   stamp_below t = sym (front_less (stamp_key a.stamp) (stamp_key b.stamp) _ _ refl (sym ex ∙ t))
 
   module _ (fx : x ≡ false) (y : Bool) (ey : y ≡ stamp_less b.stamp a.stamp) where
-    pub stamp-above : y ≡ true → false ≡ Less
+    pub stamp_above : y ≡ true → false ≡ Less
     unfolding numbers_of stamp_less stamp_key
-    stamp-above t = sym (front_more (stamp_key a.stamp) (stamp_key b.stamp) _ _ refl (sym ey ∙ t))
+    stamp_above t = sym (front_more (stamp_key a.stamp) (stamp_key b.stamp) _ _ refl (sym ey ∙ t))
 
     module _ (fy : y ≡ false) where
       tails : Less ≡ less (a.actor.0 ∷ a.seq ∷ []) (b.actor.0 ∷ b.seq ∷ [])
@@ -200,11 +200,11 @@ module _ (a b : Key) (x : Bool) (ex : x ≡ stamp_less a.stamp b.stamp) where
           let e : a.stamp ≡ b.stamp = stamp_total a.stamp b.stamp (sym ex ∙ fx) (sym ey ∙ fy) in
           rw e (front_same (stamp_key b.stamp) (a.actor.0 ∷ a.seq ∷ []) (b.actor.0 ∷ b.seq ∷ []))
 
-      pub author-below : a.actor.0 < b.actor.0 → true ≡ Less
-      author-below h = sym (tails ∙ less_below a.actor.0 b.actor.0 _ _ h)
+      pub author_below : a.actor.0 < b.actor.0 → true ≡ Less
+      author_below h = sym (tails ∙ less_below a.actor.0 b.actor.0 _ _ h)
 
-      pub author-above : b.actor.0 < a.actor.0 → false ≡ Less
-      author-above h = sym (tails ∙ less_above a.actor.0 b.actor.0 _ _ h)
+      pub author_above : b.actor.0 < a.actor.0 → false ≡ Less
+      author_above h = sym (tails ∙ less_above a.actor.0 b.actor.0 _ _ h)
 
       last : (m n : ℕ) → ltb m n ≡ less (m ∷ []) (n ∷ [])
       unfolding less
@@ -214,8 +214,8 @@ module _ (a b : Key) (x : Bool) (ex : x ≡ stamp_less a.stamp b.stamp) where
         | above h ↦ le-ltb m n (omega arith) ∙ sym (less_above m n [] [] h)
       ]
 
-      pub as-seqs : a.actor.0 ≤ b.actor.0 → b.actor.0 ≤ a.actor.0 → ltb a.seq b.seq ≡ Less
-      as-seqs h k = sym (tails ∙ less_level a.actor.0 b.actor.0 _ _ (omega arith) ∙ sym (last a.seq b.seq))
+      pub as_seqs : a.actor.0 ≤ b.actor.0 → b.actor.0 ≤ a.actor.0 → ltb a.seq b.seq ≡ Less
+      as_seqs h k = sym (tails ∙ less_level a.actor.0 b.actor.0 _ _ (omega arith) ∙ sym (last a.seq b.seq))
 
 -- ---- tests of a reference by its key
 module _ (held batch : List ℕ) (k : ℕ) (key : Key) (o : KeyOf (ref_row held batch k) key) where

@@ -174,11 +174,11 @@ module _ (ks ns : List ℕ) (n a i : ℕ) (c : Clocked ks ns n) (p : Parts ks n 
         | inl x ↦ omega (arith, p.above i (omega arith) (omega arith), ascends ks ns n c i j x m')
         | inr x ↦
             let e : j ≡ i = omega arith in
-            rw e (above-here t (omega arith) (p.above i (omega arith) (omega arith)))
+            rw e (above_here t (omega arith) (p.above i (omega arith) (omega arith)))
       ]))
     where
-      above-here : stands_at ks n i a ≡ false → i < n → a ≤ get_or ks i 0 → a < get_or ks i 0
-      above-here t h g = elim (lt_or_le a (get_or ks i 0)) [
+      above_here : stands_at ks n i a ≡ false → i < n → a ≤ get_or ks i 0 → a < get_or ks i 0
+      above_here t h g = elim (lt_or_le a (get_or ks i 0)) [
         | inl x ↦ x
         | inr x ↦ absurd (apart t h (omega arith))
       ]

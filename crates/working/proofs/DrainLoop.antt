@@ -139,17 +139,17 @@ module _ {held batch s₀ ks₀ ns₀ : List ℕ} {n m₀ : ℕ} {s ks ns : List
     pub word_room : 16 * j + 8 ≤ length s
     word_room = omega (arith, turn.0)
 
-    pub found-ref : (k : ℕ) → k ≡ get64 s (16 * j) → ref_ok held batch k ≡ true
-    found-ref k q = ref_there held batch s left j k g.working turn.0 q
+    pub found_ref : (k : ℕ) → k ≡ get64 s (16 * j) → ref_ok held batch k ≡ true
+    found_ref k q = ref_there held batch s left j k g.working turn.0 q
 
-    pub take-needs : (j < left) × (16 * left ≤ length s)
-    take-needs = (turn.0, omega (arith, turn.0))
+    pub take_needs : (j < left) × (16 * left ≤ length s)
+    take_needs = (turn.0, omega (arith, turn.0))
 
     pub push_room : 16 * logged + 16 ≤ length s
     push_room = omega (arith, turn.0)
 
-    pub put-needs : Clocked ks ns m × (m + 1 ≤ length ks) × (m + 1 ≤ length ns)
-    put-needs = (g.clocked, omega (arith, turn.0), omega (arith, turn.0))
+    pub put_needs : Clocked ks ns m × (m + 1 ≤ length ks) × (m + 1 ≤ length ns)
+    put_needs = (g.clocked, omega (arith, turn.0), omega (arith, turn.0))
 
   pub going_end : Nothing ≡ first_where (ready_ref (ticks ks ns m) held batch) (column s 0 left) → (time : ℕ)
       → Drains (ticks ks₀ ns₀ m₀) held batch time s₀ s n (record { waiting = left; logged = logged; dropped = dropped; authors = m })
@@ -218,10 +218,10 @@ module _ {held batch s₀ ks₀ ns₀ : List ℕ} {n m₀ : ℕ} {s ks ns : List
       whole = λ time. rw (out.working, out.logged logged) (sym (drain_drop _ _ _ _ (left - 1) _ _ (picked time) (tested time false q)) ∙ before time _ one);
     }
 
-    pub going-log : (u ks' ns' : List ℕ) (m' : ℕ) → b ≡ true → length u ≡ length s → length ks' ≡ length ks → length ns' ≡ length ns → Pushed t u logged k
+    pub going_log : (u ks' ns' : List ℕ) (m' : ℕ) → b ≡ true → length u ≡ length s → length ks' ≡ length ks → length ns' ≡ length ns → Pushed t u logged k
         → Ticked ks ns m key.actor.0 key.seq ks' ns' m' → Going held batch s₀ ks₀ ns₀ n m₀ u ks' ns' m' (left - 1) (logged + 1) dropped
     unfolding row
-    going-log u ks' ns' m' q len lk ln p o = record {
+    going_log u ks' ns' m' q len lk ln p o = record {
       same = len ∙ g.same;
       same_authors = lk ∙ g.same_authors;
       same_numbers = ln ∙ g.same_numbers;

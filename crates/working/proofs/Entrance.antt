@@ -218,16 +218,16 @@ module _ (c : List (ℕ × ℕ)) (held batch s t us : List ℕ) (n at : ℕ) (b 
           known time dup (present (work_row held batch time k)) (rw at_j at (met_look (met_is b.row held batch time (column s 0 n) (At j) (by_row (At j) e))))
           ∙ rw (← row_time held batch k time, ← alike, ← author_is, ← seq_is)
 
-      pub admit-same : x ≡ true → t ≡ s → Keyed held batch t us n → Admits c held batch s t us n at answer.Duplicate
-      admit-same q z y = is_duplicate b next er (λ time dup. told time dup ∙ rw q) z y
+      pub admit_same : x ≡ true → t ≡ s → Keyed held batch t us n → Admits c held batch s t us n at answer.Duplicate
+      admit_same q z y = is_duplicate b next er (λ time dup. told time dup ∙ rw q) z y
 
-      pub admit-other : x ≡ false → Admits c held batch s t us n at (answer.Conflict key.actor key.seq)
-      admit-other q = is_conflict {actor = key.actor} {seq = key.seq} b next er (λ time dup. told time dup ∙ rw q)
+      pub admit_other : x ≡ false → Admits c held batch s t us n at (answer.Conflict key.actor key.seq)
+      admit_other q = is_conflict {actor = key.actor} {seq = key.seq} b next er (λ time dup. told time dup ∙ rw q)
 
-    pub admit-new : Nothing ≡ first_where (id_ref key.actor.0 key.seq held batch) (column s 0 n) → Puts held batch s t us n (64 + at)
+    pub admit_new : Nothing ≡ first_where (id_ref key.actor.0 key.seq held batch) (column s 0 n) → Puts held batch s t us n (64 + at)
         → Admits c held batch s t us n at answer.Entered
     unfolding when_known
-    admit-new e q = is_entered b next er (λ time dup. new time dup) q.refs q.keyed
+    admit_new e q = is_entered b next er (λ time dup. new time dup) q.refs q.keyed
       where
         arrives : (time : ℕ) → work_row held batch time (64 + at) ≡ arrived time b
         arrives time =

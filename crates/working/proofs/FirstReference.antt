@@ -49,13 +49,13 @@ module _ (p : ℕ → Bool) (s : List ℕ) (n : ℕ) where
     unfolding first_where
     first_head = rw (cells_next s i n h, ← e, r)
 
-    pub first-here : b ≡ true → LeftFirst p s n i → At i ≡ first_where p (column s 0 n)
+    pub first_here : b ≡ true → LeftFirst p s n i → At i ≡ first_where p (column s 0 n)
     unfolding LeftFirst onward
-    first-here t inv = sym (inv ∙ rw (first_head, t) (ap At (omega arith)))
+    first_here t inv = sym (inv ∙ rw (first_head, t) (ap At (omega arith)))
 
-    pub first-turn : b ≡ false → LeftFirst p s n i → LeftFirst p s n (i + 1)
+    pub first_turn : b ≡ false → LeftFirst p s n i → LeftFirst p s n (i + 1)
     unfolding LeftFirst
-    first-turn t inv = inv ∙ rw (first_head, t) (onward_later i _)
+    first_turn t inv = inv ∙ rw (first_head, t) (onward_later i _)
 
 -- a reference that is found is one of them
 found_by : (ks : List ℕ) (k j : ℕ) (b : Bool) (f : Found) → ((i : ℕ) → At i ≡ f → i < length ks) → At j ≡ pick b (At 0) (later f) → j < suc (length ks)

@@ -145,46 +145,46 @@ module _ (s : List ℕ) where
 
   -- the numbers that a row begins with
   module _ (at next : ℕ) (head : Head) (t : is_read (read_row s at) ≡ true) (e : read_head s at ≡ got head next) where
-    tail-is : read_row s at ≡ past_head head next
-    tail-is = read_row_is at ∙ rw e
+    tail_is : read_row s at ≡ past_head head next
+    tail_is = read_row_is at ∙ rw e
 
     heads : Heads head (read_row s at)
     unfolding past_head
-    heads = rw tail-is (after_all (Heads head) (read_deps s next) _ (λ r. refl) (λ deps at. past_heads head deps at))
+    heads = rw tail_is (after_all (Heads head) (read_deps s next) _ (λ r. refl) (λ deps at. past_heads head deps at))
 
-    of-heads : (g : Got BatchRow) → is_read g ≡ true → Heads head g
+    of_heads : (g : Got BatchRow) → is_read g ≡ true → Heads head g
         → ((arrived_by 0 g).row.stamp ≡ head.stamp) × ((arrived_by 0 g).row.author ≡ head.author) × ((arrived_by 0 g).row.seq ≡ head.seq)
-    of-heads (got b n) h p = p
-    of-heads (bad r) h p = absurd (let z : ◌≡◌ {A = ℕ} 0 1 = cc in omega arith)
+    of_heads (got b n) h p = p
+    of_heads (bad r) h p = absurd (let z : ◌≡◌ {A = ℕ} 0 1 = cc in omega arith)
 
-    pub head-fields : ((batch_row_at s at).stamp ≡ head.stamp) × ((batch_row_at s at).author ≡ head.author) × ((batch_row_at s at).seq ≡ head.seq)
+    pub head_fields : ((batch_row_at s at).stamp ≡ head.stamp) × ((batch_row_at s at).author ≡ head.author) × ((batch_row_at s at).seq ≡ head.seq)
     unfolding batch_row_at
-    head-fields = of-heads (read_row s at) t heads
+    head_fields = of_heads (read_row s at) t heads
 
-    pub head-key : (key : Key) → key.stamp ≡ head.stamp → key.actor.0 ≡ head.author → key.seq ≡ head.seq → KeyOf (batch_row_at s at) key
-    head-key key p q r = record { stamp = p ∙ sym head-fields.0; author = q ∙ sym head-fields.1; seq = r ∙ sym head-fields.2 }
+    pub head_key : (key : Key) → key.stamp ≡ head.stamp → key.actor.0 ≡ head.author → key.seq ≡ head.seq → KeyOf (batch_row_at s at) key
+    head_key key p q r = record { stamp = p ∙ sym head_fields.0; author = q ∙ sym head_fields.1; seq = r ∙ sym head_fields.2 }
 
     -- and its dependencies
     deps_got : (ds : List (ℕ × ℕ)) × (n : ℕ) × (read_deps s next ≡ got ds n)
     unfolding past_head
-    deps_got = after_read (read_deps s next) _ (rw tail-is at t)
+    deps_got = after_read (read_deps s next) _ (rw tail_is at t)
 
-    of-causes : (ds : List (ℕ × ℕ)) (g : Got BatchRow) → is_read g ≡ true → Causes ds g → (arrived_by 0 g).row.deps ≡ ds
-    of-causes ds (got b n) h p = p
-    of-causes ds (bad r) h p = absurd (let z : ◌≡◌ {A = ℕ} 0 1 = cc in omega arith)
+    of_causes : (ds : List (ℕ × ℕ)) (g : Got BatchRow) → is_read g ≡ true → Causes ds g → (arrived_by 0 g).row.deps ≡ ds
+    of_causes ds (got b n) h p = p
+    of_causes ds (bad r) h p = absurd (let z : ◌≡◌ {A = ℕ} 0 1 = cc in omega arith)
 
-    deps-is : (batch_row_at s at).deps ≡ deps_got.0
+    deps_is : (batch_row_at s at).deps ≡ deps_got.0
     unfolding batch_row_at past_head
-    deps-is =
-        let q : read_row s at ≡ past_deps head deps_got.0 deps_got.1 = tail-is ∙ rw deps_got.2 in
-        of-causes deps_got.0 (read_row s at) t (rw q (past_causes head deps_got.0 deps_got.1))
+    deps_is =
+        let q : read_row s at ≡ past_deps head deps_got.0 deps_got.1 = tail_is ∙ rw deps_got.2 in
+        of_causes deps_got.0 (read_row s at) t (rw q (past_causes head deps_got.0 deps_got.1))
 
     ended_got : (r : Reading) (ds es : List (ℕ × ℕ)) (n : ℕ) → ended_by r ds ≡ got es n → ds ≡ es
     ended_got (ended.Read m) ds es n q = cc
     ended_got (ended.Refused k) ds es n q = absurd (let z : ◌≡◌ {A = ℕ} 0 1 = cc in omega arith)
 
-    pub deps-field : (r : Reading) (ds : List (ℕ × ℕ)) → ended_by r ds ≡ read_deps s next → ds ≡ (batch_row_at s at).deps
-    deps-field r ds q = ended_got r ds deps_got.0 deps_got.1 (q ∙ deps_got.2) ∙ sym deps-is
+    pub deps_field : (r : Reading) (ds : List (ℕ × ℕ)) → ended_by r ds ≡ read_deps s next → ds ≡ (batch_row_at s at).deps
+    deps_field r ds q = ended_got r ds deps_got.0 deps_got.1 (q ∙ deps_got.2) ∙ sym deps_is
 
   -- a row that is read has a head
   pub no_head_lem : (at : ℕ) (r : Refusal) → is_read (read_row s at) ≡ true → read_head s at ≡ bad r → ⊥

@@ -3,7 +3,7 @@ use native.Mathlib.Omega.{arith}
 use Rattle.clock.specs.Vector.{number_answer}
 use Rattle.log.specs.Areas.{areas}
 use Rattle.sync.specs.Delta.{delta_call}
-use Rattle.sync.proofs.CallTests.{counted, ready, list_refused, list-short, delta_done}
+use Rattle.sync.proofs.CallTests.{counted, ready, list_refused, list_short, delta_done}
 use borrow.Author.Rules.{rules}
 use Rattle.sync.proofs.calculate_delta.Statement.{statement}
 use Rattle.sync.proofs.calculate_delta.Tie as tie
@@ -21,7 +21,7 @@ returns : tie.Need-returns
 unfolding delta_call
 returns c =
     let at = c.before.before in
-    list-short _ _ _ _ _ _ (counted _ _ _ (sym (ap number_answer at.told2.given.1) ∙ at.before.before.count_rows.ensures)) c.if1.true refl
+    list_short _ _ _ _ _ _ (counted _ _ _ (sym (ap number_answer at.told2.given.1) ∙ at.before.before.count_rows.ensures)) c.if1.true refl
 
 load_clock_requires : tie.Need-load-clock-requires
 load_clock_requires c κs =

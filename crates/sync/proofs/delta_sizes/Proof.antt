@@ -3,7 +3,7 @@ use native.Mathlib.Omega.{arith}
 use Rattle.clock.specs.Vector.{number_answer}
 use Rattle.log.specs.Areas.{areas}
 use Rattle.sync.proofs.CallTests.{counted, ready}
-use Rattle.sync.proofs.SizeCalls.{sizes_capacity, sizes-refused, room_found, sizes-short, sizes-done}
+use Rattle.sync.proofs.SizeCalls.{sizes_capacity, sizes_refused, room_found, sizes_short, sizes_done}
 use borrow.Author.Rules.{rules}
 use Rattle.sync.proofs.delta_sizes.Statement.{statement}
 use Rattle.sync.proofs.delta_sizes.Tie as tie
@@ -43,7 +43,7 @@ returns_2 c =
     let counts = loads.before.before.before.before in
     let args = counts.before.before.before.before.before.before.before.args in
     let a = areas args.rows.now args.held.now args.head.now in
-    sizes-short a _ _ _ _ _ _ _ counts.before.if1.false _ _ _ (counted a _ _ (sym (ap number_answer loads.before.before.told2.given.1) ∙ counts.count_rows.ensures)) loads.load-clock.ensures c.before.before.at_least_one.ensures _ c.before.has_room.ensures c.if2.true refl
+    sizes_short a _ _ _ _ _ _ _ counts.before.if1.false _ _ _ (counted a _ _ (sym (ap number_answer loads.before.before.told2.given.1) ∙ counts.count_rows.ensures)) loads.load-clock.ensures c.before.before.at_least_one.ensures _ c.before.has_room.ensures c.if2.true refl
 
 write_sizes_requires : tie.Need-write-sizes-requires
 write_sizes_requires c κs =
@@ -58,7 +58,7 @@ write_sizes_requires c κs =
 returns_3 : tie.Need-returns-3
 returns_3 c =
     let counts = c.before.before.before in
-    sizes-refused _ _ _ _ _ _ _ _ counts.before.if1.false _ (sym (ap number_answer c.before.told.given.1) ∙ counts.count_rows.ensures) refl
+    sizes_refused _ _ _ _ _ _ _ _ counts.before.if1.false _ (sym (ap number_answer c.before.told.given.1) ∙ counts.count_rows.ensures) refl
 
 same_length : tie.Need-same-length
 same_length c = search rules
@@ -71,7 +71,7 @@ returns_4 c =
     let args = counts.before.before.before.before.before.before.before.args in
     let a = areas args.rows.now args.held.now args.head.now in
     let k = counted a _ _ (sym (ap number_answer loads.before.before.told2.given.1) ∙ counts.count_rows.ensures) in
-    sizes-done a _ _ _ _ _ _ _ counts.before.if1.false _ _ _ k loads.load-clock.ensures tests.before.before.at_least_one.ensures _ tests.before.has_room.ensures _ tests.if2.false c.before.before.write-sizes.ensures
+    sizes_done a _ _ _ _ _ _ _ counts.before.if1.false _ _ _ k loads.load-clock.ensures tests.before.before.at_least_one.ensures _ tests.before.has_room.ensures _ tests.if2.false c.before.before.write-sizes.ensures
 
 pub delta_sizes_spec : {M : Type 1} → statement M
 delta_sizes_spec =

@@ -6,7 +6,7 @@ use mathlib.Core.Logic.{⊎_elim}
 use native.Mathlib.Omega.{arith}
 use lib.ListN.{length, drop, get_or, length-map}
 use Rattle.row.specs.Values.{deps_of}
-use Rattle.batch.proofs.Validation.{LeftOwn, own_other, own_below, own-found, own_none, value_length, value_next}
+use Rattle.batch.proofs.Validation.{LeftOwn, own_other, own_below, own_found, own_none, value_length, value_next}
 use Rattle.batch.proofs.limits.own_future.Statement.{statement}
 use Rattle.batch.proofs.limits.own_future.Tie as tie
 
@@ -46,7 +46,7 @@ element_copy_out_if2 c = omega (arith, numbers16 c.before.before.before.before.b
 returns : tie.Need-returns invariant_loop decreases_loop
 returns c =
     let at = c.before.before.before.before.before.before in
-    own-found _ _ _ at.loop.i _ _ (next at.before at.loop.i c.before.before.before.before.before.loop-test.true) c.before.before.if1.true c.if2.true at.loop.invariant.1
+    own_found _ _ _ at.loop.i _ _ (next at.before at.loop.i c.before.before.before.before.before.loop-test.true) c.before.before.if1.true c.if2.true at.loop.invariant.1
 
 add_i : tie.Need-overflow-add-i invariant_loop decreases_loop
 add_i c = search rules

@@ -4,7 +4,7 @@ use mathlib.Core.Path.{◌≡◌, sym, ◌∙◌}
 use lib.ListN.{length, length-map}
 use Rattle.row.specs.Values.{deps_of}
 use Rattle.batch.specs.Settings.{limits_of}
-use Rattle.batch.proofs.Validation.{value_length, zero_sequence, foreign_stamp, spent_counter, payload_too_large, too_many_causes, own_future_lem, ahead-of-time, bad_signature, valid_row}
+use Rattle.batch.proofs.Validation.{value_length, zero_sequence, foreign_stamp, spent_counter, payload_too_large, too_many_causes, own_future_lem, ahead_of_time, bad_signature, valid_row}
 use Rattle.batch.proofs.limits.validate.Statement.{statement}
 use Rattle.batch.proofs.limits.validate.Tie as tie
 
@@ -54,7 +54,7 @@ unfolding limits_of
 returns_7 c =
     let at = c.before.before.before.before.before.before.before in
     let at₂ = at.before.before.before.before.before.before.before in
-    ahead-of-time _ _ _ _ at₂.if1.false at.before.before.before.before.if2.false at.before.before.if3.false at.if4.false (deps_length at₂.before.before.before.before) c.before.before.before.before.before.if5.false c.before.before.before.before.own_future_lem.ensures c.before.before.before.if6.false c.before.before.saturating-add.ensures c.if7.true
+    ahead_of_time _ _ _ _ at₂.if1.false at.before.before.before.before.if2.false at.before.before.if3.false at.if4.false (deps_length at₂.before.before.before.before) c.before.before.before.before.before.if5.false c.before.before.before.before.own_future_lem.ensures c.before.before.before.if6.false c.before.before.saturating-add.ensures c.if7.true
 
 returns_8 : tie.Need-returns-8
 unfolding limits_of

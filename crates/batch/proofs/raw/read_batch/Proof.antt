@@ -1,5 +1,5 @@
 use Rattle.row.proofs.ReadSteps.{num, no_num}
-use Rattle.batch.proofs.BatchLoop.{no_count, over-count, batch-by-rows, ended_as}
+use Rattle.batch.proofs.BatchLoop.{no_count, over_count, batch_by_rows, ended_as}
 use Rattle.batch.proofs.RowStarts.{none_start, starts_by_rows}
 use borrow.Author.Rules.{rules}
 use Rattle.batch.proofs.raw.read_batch.Statement.{statement}
@@ -24,7 +24,7 @@ no_batch_requires_2 : tie.Need-no-batch-requires-2
 no_batch_requires_2 c κs = search rules
 
 returns_2 : tie.Need-returns-2
-returns_2 c = (over-count _ _ _ (num _ _ c.before.before.before.before.before.get-varint.ensures c.before.before.before.count.given.1) c.before.if1.true c.no-batch2.ensures, none_start _ _ _ (ended_as c.no-batch2.ensures))
+returns_2 c = (over_count _ _ _ (num _ _ c.before.before.before.before.before.get-varint.ensures c.before.before.before.count.given.1) c.before.if1.true c.no-batch2.ensures, none_start _ _ _ (ended_as c.no-batch2.ensures))
 
 read_rows_requires : tie.Need-read-rows-requires
 read_rows_requires c κs = search rules
@@ -35,7 +35,7 @@ same_length c = search rules
 returns_3 : tie.Need-returns-3
 returns_3 c =
     let at = c.before.before.before.before.before.before in
-    (batch-by-rows _ _ _ (num _ _ at.before.before.get-varint.ensures at.count.given.1) c.before.before.before.before.if1.false c.before.before.read-rows.ensures.0, starts_by_rows _ _ _ _ _ _ c.before.before.read-rows.ensures.0 c.before.before.read-rows.ensures.1)
+    (batch_by_rows _ _ _ (num _ _ at.before.before.get-varint.ensures at.count.given.1) c.before.before.before.before.if1.false c.before.before.read-rows.ensures.0, starts_by_rows _ _ _ _ _ _ c.before.before.read-rows.ensures.0 c.before.before.read-rows.ensures.1)
 
 pub read_batch_spec : {M : Type 1} → statement M
 read_batch_spec =

@@ -5,7 +5,7 @@ use native.Mathlib.Omega.{arith}
 use lib.ListN.{length}
 use Rattle.clock.specs.Vector.{outcome_of}
 use Rattle.batch.specs.Settings.{limits_of}
-use Rattle.batch.proofs.BatchLoop.{Counting, counting_start, left_over, all_read, row-stops, counting-turn, rows_refused, ended_as}
+use Rattle.batch.proofs.BatchLoop.{Counting, counting_start, left_over, all_read, row_stops, counting_turn, rows_refused, ended_as}
 use Rattle.batch.proofs.RowStarts.{Starting, starting_start, starting_turn, all_noted, none_start}
 use Rattle.batch.proofs.raw.read_rows.Statement.{statement}
 use Rattle.batch.proofs.raw.read_rows.Tie as tie
@@ -32,7 +32,7 @@ same_length : tie.Need-same-length invariant_loop decreases_loop
 same_length c = search rules
 
 returns : tie.Need-returns invariant_loop decreases_loop
-returns c = (rows_refused c.no-batch.ensures (row-stops c.before.before.before.before.before.before.loop.invariant.1 c.before.before.before.before.before.loop-test.true c.before.before.before.before.read_row_lem.ensures c.before.before.reading.given.1), none_start _ _ _ (ended_as c.no-batch.ensures))
+returns c = (rows_refused c.no-batch.ensures (row_stops c.before.before.before.before.before.before.loop.invariant.1 c.before.before.before.before.before.loop-test.true c.before.before.before.before.read_row_lem.ensures c.before.before.reading.given.1), none_start _ _ _ (ended_as c.no-batch.ensures))
 
 enum_known_reading_2 : tie.Need-enum-known-reading-2 invariant_loop decreases_loop
 enum_known_reading_2 c = search rules
@@ -55,7 +55,7 @@ loop_less c = search rules
 loop_again : tie.Need-loop-preserved invariant_loop decreases_loop
 loop_again c =
     let at = c.before.before.before.before.before.before in
-    (search rules, counting-turn at.loop.invariant.1 c.before.before.before.before.before.loop-test.true c.before.before.before.before.read_row_lem.ensures c.before.before.reading2.given.1 c.validated.ensures, starting_turn at.loop.invariant.2 (search rules) c.before.before.before.before.read_row_lem.ensures c.before.before.reading2.given.1)
+    (search rules, counting_turn at.loop.invariant.1 c.before.before.before.before.before.loop-test.true c.before.before.before.before.read_row_lem.ensures c.before.before.reading2.given.1 c.validated.ensures, starting_turn at.loop.invariant.2 (search rules) c.before.before.before.before.read_row_lem.ensures c.before.before.reading2.given.1)
 
 no_batch_requires_2 : tie.Need-no-batch-requires-2 invariant_loop decreases_loop
 no_batch_requires_2 c κs = search rules

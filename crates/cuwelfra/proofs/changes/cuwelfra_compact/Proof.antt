@@ -26,7 +26,7 @@ same_length_2 : tie.Need-same-length-2
 same_length_2 c = search rules
 
 returns : tie.Need-returns
-returns c = leaves_number _ _ _ _ _ c.before.before.before.before.before.compact.result c.before.before.before.before.before.before.before.before.stamp-by.ensures c.before.before.before.before.before.compact.ensures c.clock-told.ensures
+returns c = leaves_number _ _ _ _ _ c.before.before.before.before.before.compact.result c.before.before.before.before.before.before.before.before.stamp-by.ensures c.before.before.before.before.before.compact.ensures c.clock_told.ensures
 
 pub cuwelfra_compact_spec : {M : Type 1} → statement M
 cuwelfra_compact_spec =

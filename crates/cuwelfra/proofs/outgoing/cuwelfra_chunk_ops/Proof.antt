@@ -19,7 +19,7 @@ same_length : tie.Need-same-length
 same_length c = search rules
 
 returns : tie.Need-returns
-returns c = exports count_told _ _ _ _ c.clock-told.ensures c.before.before.before.chunk-ops.ensures
+returns c = exports count_told _ _ _ _ c.clock_told.ensures c.before.before.before.chunk-ops.ensures
 
 pub cuwelfra_chunk_ops_spec : {M : Type 1} → statement M
 cuwelfra_chunk_ops_spec =

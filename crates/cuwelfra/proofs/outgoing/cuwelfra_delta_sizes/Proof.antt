@@ -14,7 +14,7 @@ same_length : tie.Need-same-length
 same_length c = search rules
 
 returns : tie.Need-returns
-returns c = exports count_told _ _ _ _ c.clock-told.ensures c.before.before.before.delta-sizes.ensures
+returns c = exports count_told _ _ _ _ c.clock_told.ensures c.before.before.before.delta-sizes.ensures
 
 pub cuwelfra_delta_sizes_spec : {M : Type 1} → statement M
 cuwelfra_delta_sizes_spec =

@@ -15,7 +15,7 @@ clock_told_requires : tie.Need-clock-told-requires
 clock_told_requires c κs = search rules
 
 returns : tie.Need-returns
-returns c = pending_short _ _ _ (omega arith) c.clock-told.ensures
+returns c = pending_short _ _ _ (omega arith) c.clock_told.ensures
 
 load_peer_requires : tie.Need-load-peer-requires
 load_peer_requires c κs = search rules

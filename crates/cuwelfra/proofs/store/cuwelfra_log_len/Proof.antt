@@ -15,7 +15,7 @@ clock_told_requires : tie.Need-clock-told-requires
 clock_told_requires c κs = search rules
 
 returns : tie.Need-returns
-returns c = c.clock-told.ensures ∙ ap count_told c.before.len.ensures
+returns c = c.clock_told.ensures ∙ ap count_told c.before.len.ensures
 
 pub cuwelfra_log_len_spec : {M : Type 1} → statement M
 cuwelfra_log_len_spec = tie.close (tie.spec len_requires clock_told_requires returns)

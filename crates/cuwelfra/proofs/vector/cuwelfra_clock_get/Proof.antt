@@ -16,7 +16,7 @@ clock_told_requires c κs = search rules
 
 returns : tie.Need-returns
 unfolding get_area
-returns c = rw (is_short c.before.before.before.args.clock.now (omega arith)) c.clock-told.ensures
+returns c = rw (is_short c.before.before.before.args.clock.now (omega arith)) c.clock_told.ensures
 
 load_clock_requires : tie.Need-load-clock-requires
 load_clock_requires c κs = search rules

@@ -17,7 +17,7 @@ clock_told_requires c κs = search rules
 
 returns : tie.Need-returns
 unfolding increment_area
-returns c = short_number _ _ _ _ (is_short c.before.before.before.args.clock.now (omega arith)) c.clock-told.ensures
+returns c = short_number _ _ _ _ (is_short c.before.before.before.args.clock.now (omega arith)) c.clock_told.ensures
 
 load_clock_requires : tie.Need-load-clock-requires
 load_clock_requires c κs = search rules

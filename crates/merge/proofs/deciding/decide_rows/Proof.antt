@@ -4,7 +4,7 @@ use Rattle.clock.specs.Vector.{outcome_of}
 use Rattle.log.specs.Areas.{areas}
 use Rattle.merge.specs.Inside.Decision.{Merges}
 use Rattle.merge.proofs.PartAnswers.{were_rows, was_conflict}
-use Rattle.merge.proofs.Judgement.{used_is, oldest_is, opened_long, settle_needs, judge-needs, not_admitted, not-passed, accepts}
+use Rattle.merge.proofs.Judgement.{used_is, oldest_is, opened_long, settle_needs, judge_needs, not_admitted, not_passed, accepts}
 use borrow.Author.Rules.{rules}
 use Rattle.merge.proofs.deciding.decide_rows.Statement.{statement}
 use Rattle.merge.proofs.deciding.decide_rows.Tie as tie
@@ -46,7 +46,7 @@ judge_requires : tie.Need-judge-requires
 judge_requires c κs =
     let at = c.before.before.before.before.before.before in
     let at₂ = at.before.before.before.before.before.before.before.before.before.before in
-    judge-needs (areas at₂.args.log.now at₂.args.held.now at₂.args.head.now) _ _ _ _ _ _ _ at₂.requires _ (used_is at₂.args.held.now (704 * at₂.args.count)) _ (oldest_is at₂.args.limits _ _ at.before.before.before.oldest.ensures) _ _ _ _ _ _ _ (were_rows _ _ _ _ _ _ _ _ at.settle.result _ _ _ _ _ _ c.before.before.settled2.given.1 at.settle.ensures) (search rules)
+    judge_needs (areas at₂.args.log.now at₂.args.held.now at₂.args.head.now) _ _ _ _ _ _ _ at₂.requires _ (used_is at₂.args.held.now (704 * at₂.args.count)) _ (oldest_is at₂.args.limits _ _ at.before.before.before.oldest.ensures) _ _ _ _ _ _ _ (were_rows _ _ _ _ _ _ _ _ at.settle.result _ _ _ _ _ _ c.before.before.settled2.given.1 at.settle.ensures) (search rules)
 
 enum_known_told : tie.Need-enum-known-told
 enum_known_told c = search rules
@@ -71,7 +71,7 @@ returns_2 c =
     let at = c.before.before.before.before.before.before in
     let at₂ = at.before.before.before.before in
     let at₃ = at₂.before.before.before.before.before.before.before.before.before.before in
-    not-passed (areas at₃.args.log.now at₃.args.held.now at₃.args.head.now) _ _ _ _ _ _ _ at₃.requires _ (used_is at₃.args.held.now (704 * at₃.args.count)) _ (oldest_is at₃.args.limits _ _ at₂.before.before.before.oldest.ensures) _ _ _ _ _ _ _ (were_rows _ _ _ _ _ _ _ _ at₂.settle.result _ _ _ _ _ _ at.settled2.given.1 at₂.settle.ensures) (search rules) _ c.before.before.before.judge.ensures _ (ap outcome_of c.before.told.given.1)
+    not_passed (areas at₃.args.log.now at₃.args.held.now at₃.args.head.now) _ _ _ _ _ _ _ at₃.requires _ (used_is at₃.args.held.now (704 * at₃.args.count)) _ (oldest_is at₃.args.limits _ _ at₂.before.before.before.oldest.ensures) _ _ _ _ _ _ _ (were_rows _ _ _ _ _ _ _ _ at₂.settle.result _ _ _ _ _ _ at.settled2.given.1 at₂.settle.ensures) (search rules) _ c.before.before.before.judge.ensures _ (ap outcome_of c.before.told.given.1)
 
 same_length_3 : tie.Need-same-length-3
 same_length_3 c = search rules

@@ -4,7 +4,7 @@ use borrow.Author.Tests.{not-true, not-false}
 use Rattle.clock.specs.Vector.{outcome_of}
 use Rattle.log.specs.Areas.{areas}
 use Rattle.log.proofs.Calls.Queries.{passed, stopped}
-use Rattle.merge.proofs.Preparation.{no_limits, no_store, prepared-by}
+use Rattle.merge.proofs.Preparation.{no_limits, no_store, prepared_by_lem}
 use borrow.Author.Rules.{rules}
 use Rattle.merge.proofs.deciding.prepare.Statement.{statement}
 use Rattle.merge.proofs.deciding.prepare.Tie as tie
@@ -54,7 +54,7 @@ returns_3 : tie.Need-returns-3
 returns_3 c =
     let at₂ = c.before.before.before.before.before.before.before in
     let args = at₂.before.before.before.before.before.before.before.before.before.before.args in
-    prepared-by (areas args.log.now args.held.now args.head.now) _ _ _ _ _ _ (sym at₂.before.before.are-within.ensures ∙ not-false _ at₂.before.if1.false) (passed (areas args.log.now args.held.now args.head.now) _ at₂.check-store.ensures (ap outcome_of c.before.before.before.before.before.enum_told.given.1)) (search rules) _ (rw c.before.before.before.before.get-word.ensures at c.before.before.take_in.ensures)
+    prepared_by_lem (areas args.log.now args.held.now args.head.now) _ _ _ _ _ _ (sym at₂.before.before.are-within.ensures ∙ not-false _ at₂.before.if1.false) (passed (areas args.log.now args.held.now args.head.now) _ at₂.check-store.ensures (ap outcome_of c.before.before.before.before.before.enum_told.given.1)) (search rules) _ (rw c.before.before.before.before.get-word.ensures at c.before.before.take_in.ensures)
 
 pub prepare_spec : {M : Type 1} → statement M
 prepare_spec =

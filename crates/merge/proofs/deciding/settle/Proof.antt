@@ -1,4 +1,4 @@
-use Rattle.merge.proofs.Settlement.{kept_few, admit_needs, drain-needs, settle-refused, settle-rows}
+use Rattle.merge.proofs.Settlement.{kept_few, admit_needs, drain_needs, settle_refused, settle_rows}
 use borrow.Author.Rules.{rules}
 use Rattle.merge.proofs.deciding.settle.Statement.{statement}
 use Rattle.merge.proofs.deciding.settle.Tie as tie
@@ -26,7 +26,7 @@ drain_requires : tie.Need-drain-requires
 drain_requires c κs =
     let at = c.before.before.before.before.before.before in
     let at₂ = at.before.before.before.before.before.before.before.before.before.before.before in
-    drain-needs at₂.args.held.now at₂.args.batch.now at₂.args.head.now at₂.args.scratch.now at₂.args.count at₂.args.starts.now at₂.args.rows at₂.requires at₂.args.cutoff _ _ at.before.before.before.before.unexpired.ensures _ _ at.admit-all.ensures _ _ c.before.before.admitted2.given.1
+    drain_needs at₂.args.held.now at₂.args.batch.now at₂.args.head.now at₂.args.scratch.now at₂.args.count at₂.args.starts.now at₂.args.rows at₂.requires at₂.args.cutoff _ _ at.before.before.before.before.unexpired.ensures _ _ at.admit-all.ensures _ _ c.before.before.admitted2.given.1
 
 sub_t22 : tie.Need-overflow-sub-t22
 sub_t22 c =
@@ -41,7 +41,7 @@ returns : tie.Need-returns
 returns c =
     let at = c.before.before.before.before.before.before.before.before.before in
     let at₂ = at.before.before.before.before.before.before.before in
-    settle-refused at₂.args.held.now at₂.args.batch.now at₂.args.head.now at₂.args.scratch.now at₂.args.count at₂.args.starts.now at₂.args.rows at₂.requires at₂.args.cutoff _ _ at.unexpired.ensures _ _ c.before.before.before.before.before.admit-all.ensures _ c.before.admitted.given.1
+    settle_refused at₂.args.held.now at₂.args.batch.now at₂.args.head.now at₂.args.scratch.now at₂.args.count at₂.args.starts.now at₂.args.rows at₂.requires at₂.args.cutoff _ _ at.unexpired.ensures _ _ c.before.before.before.before.before.admit-all.ensures _ c.before.admitted.given.1
 
 same_length_2 : tie.Need-same-length-2
 same_length_2 c = search rules
@@ -50,7 +50,7 @@ returns_2 : tie.Need-returns-2
 returns_2 c =
     let at = c.before.before.before.before.before.before.before.before.before in
     let at₂ = at.before.before.before.before.before.before.before.before.before.before.before in
-    settle-rows at₂.args.held.now at₂.args.batch.now at₂.args.head.now at₂.args.scratch.now at₂.args.count at₂.args.starts.now at₂.args.rows at₂.requires at₂.args.cutoff _ _ at.before.before.before.before.unexpired.ensures _ _ at.admit-all.ensures _ _ c.before.before.before.before.before.admitted2.given.1 _ _ c.before.before.drain.ensures
+    settle_rows at₂.args.held.now at₂.args.batch.now at₂.args.head.now at₂.args.scratch.now at₂.args.count at₂.args.starts.now at₂.args.rows at₂.requires at₂.args.cutoff _ _ at.before.before.before.before.unexpired.ensures _ _ at.admit-all.ensures _ _ c.before.before.before.before.before.admitted2.given.1 _ _ c.before.before.drain.ensures
 
 pub settle_spec : {M : Type 1} → statement M
 settle_spec =

@@ -2,7 +2,7 @@ use Prim.Native.Nat.{◌-◌}
 use mathlib.Core.Path.{refl}
 use native.Mathlib.Omega.{arith}
 use borrow.Author.Rules.{rules}
-use Rattle.merge.proofs.FoldLoop.{Folding, folding_start, folding_end, in-starts, failed-few, row_read, folding-turn}
+use Rattle.merge.proofs.FoldLoop.{Folding, folding_start, folding_end, in_starts, failed_few, row_read, folding_turn}
 use Rattle.merge.proofs.folding.fold_stamps.Statement.{statement}
 use Rattle.merge.proofs.folding.fold_stamps.Tie as tie
 use Rattle.merge.proofs.folding.fold_stamps.Reads as reads
@@ -27,13 +27,13 @@ mul_at : tie.Need-overflow-mul-at invariant_loop decreases_loop
 mul_at c = search rules
 
 shared_slice_read_at : tie.Need-shared-slice-read-at invariant_loop decreases_loop
-shared_slice_read_at c = in-starts c.before.before.loop.invariant c.before.loop-test.true
+shared_slice_read_at c = in_starts c.before.before.loop.invariant c.before.loop-test.true
 
 stamp_at_requires : tie.Need-stamp-at-requires invariant_loop decreases_loop
 stamp_at_requires c κs = row_read c.before.before.loop.invariant c.before.loop-test.true
 
 fold_stamp_requires : tie.Need-fold-stamp-requires invariant_loop decreases_loop
-fold_stamp_requires c κs = failed-few c.before.before.before.loop.invariant c.before.before.loop-test.true
+fold_stamp_requires c κs = failed_few c.before.before.before.loop.invariant c.before.before.loop-test.true
 
 add_i : tie.Need-overflow-add-i invariant_loop decreases_loop
 add_i c = search rules
@@ -42,7 +42,7 @@ loop_less : tie.Need-loop-smaller invariant_loop decreases_loop
 loop_less c = omega (arith, c.before.before.before.loop-test.true)
 
 loop_again : tie.Need-loop-preserved invariant_loop decreases_loop
-loop_again c = folding-turn c.before.before.before.before.loop.invariant c.before.before.before.loop-test.true _ c.before.stamp_at_lem.ensures _ c.fold-stamp.ensures
+loop_again c = folding_turn c.before.before.before.before.loop.invariant c.before.before.before.loop-test.true _ c.before.stamp_at_lem.ensures _ c.fold-stamp.ensures
 
 returns : tie.Need-returns invariant_loop decreases_loop
 returns c = folding_end c.before.loop.invariant (omega (arith, c.loop-test.false))

@@ -1,5 +1,5 @@
 use Rattle.row.proofs.ReadSteps.{num, no_num}
-use Rattle.merge.proofs.StampReads.{no-wall, no-counter, no-stamper, counter_fits, stamp-by-parts}
+use Rattle.merge.proofs.StampReads.{no_wall, no_counter, no_stamper, counter_fits, stamp_by_parts}
 use borrow.Author.Rules.{rules}
 use Rattle.merge.proofs.folding.stamp_at.Statement.{statement}
 use Rattle.merge.proofs.folding.stamp_at.Tie as tie
@@ -21,7 +21,7 @@ no_stamp_requires : tie.Need-no-stamp-requires
 no_stamp_requires c κs = search rules
 
 returns : tie.Need-returns
-returns c = absurd (no-wall _ _ c.before.before.before.before.before.requires _ (no_num _ _ c.before.before.before.get-varint.ensures c.before.enum_told.given.1))
+returns c = absurd (no_wall _ _ c.before.before.before.before.before.requires _ (no_num _ _ c.before.before.before.get-varint.ensures c.before.enum_told.given.1))
 
 get_varint_requires_2 : tie.Need-get-varint-requires-2
 get_varint_requires_2 c κs = search rules
@@ -38,7 +38,7 @@ no_stamp_requires_2 c κs = search rules
 returns_2 : tie.Need-returns-2
 returns_2 c =
     let at = c.before.before.before.before.before in
-    absurd (no-counter _ _ at.before.before.before.before.requires _ _ (num _ _ at.before.before.get-varint.ensures at.wall-time.given.1) _ (no_num _ _ c.before.before.before.get-varint2.ensures c.before.enum-told2.given.1))
+    absurd (no_counter _ _ at.before.before.before.before.requires _ _ (num _ _ at.before.before.get-varint.ensures at.wall-time.given.1) _ (no_num _ _ c.before.before.before.get-varint2.ensures c.before.enum-told2.given.1))
 
 get_varint_requires_3 : tie.Need-get-varint-requires-3
 get_varint_requires_3 c κs = search rules
@@ -56,7 +56,7 @@ returns_3 : tie.Need-returns-3
 returns_3 c =
     let at₂ = c.before.before.before.before.before in
     let at = at₂.before.before.before.before in
-    absurd (no-stamper _ _ at.before.before.before.before.requires _ _ (num _ _ at.before.before.get-varint.ensures at.wall-time.given.1) _ _ (num _ _ at₂.before.before.get-varint2.ensures at₂.counter.given.1) _ (no_num _ _ c.before.before.before.get-varint3.ensures c.before.enum-told3.given.1))
+    absurd (no_stamper _ _ at.before.before.before.before.requires _ _ (num _ _ at.before.before.get-varint.ensures at.wall-time.given.1) _ _ (num _ _ at₂.before.before.get-varint2.ensures at₂.counter.given.1) _ (no_num _ _ c.before.before.before.get-varint3.ensures c.before.enum-told3.given.1))
 
 cast_t11 : tie.Need-overflow-cast-t11
 cast_t11 c =
@@ -68,7 +68,7 @@ returns_4 : tie.Need-returns-4
 returns_4 c =
     let at₂ = c.before.before.before.before.before in
     let at = at₂.before.before.before.before in
-    stamp-by-parts _ _ at.before.before.before.before.requires _ _ (num _ _ at.before.before.get-varint.ensures at.wall-time.given.1) _ _ (num _ _ at₂.before.before.get-varint2.ensures at₂.counter.given.1) _ _ (num _ _ c.before.before.before.get-varint3.ensures c.before.stamper.given.1)
+    stamp_by_parts _ _ at.before.before.before.before.requires _ _ (num _ _ at.before.before.get-varint.ensures at.wall-time.given.1) _ _ (num _ _ at₂.before.before.get-varint2.ensures at₂.counter.given.1) _ _ (num _ _ c.before.before.before.get-varint3.ensures c.before.stamper.given.1)
 
 pub stamp_at_spec : {M : Type 1} → statement M
 stamp_at_spec =

@@ -1,6 +1,6 @@
 use borrow.Author.Rules.{rules}
 use Prim.Native.Nat.{◌-◌}
-use Rattle.message.proofs.RowLoops.{Checking, checking_none, checked_all, checking-stops, checking-more}
+use Rattle.message.proofs.RowLoops.{Checking, checking_none, checked_all, checking_stops, checking_more}
 use Rattle.message.proofs.reader.check_rows.Statement.{statement}
 use Rattle.message.proofs.reader.check_rows.Tie as tie
 
@@ -23,7 +23,7 @@ enum_told : tie.Need-enum-told invariant_loop decreases_loop
 enum_told c = search rules
 
 returns : tie.Need-returns invariant_loop decreases_loop
-returns c = checking-stops c.before.before.before.before.loop.invariant c.before.before.before.loop-test.true _ _ c.before.before.get-signed-op.ensures.0 c.enum_told.given.1
+returns c = checking_stops c.before.before.before.before.loop.invariant c.before.before.before.loop-test.true _ _ c.before.before.get-signed-op.ensures.0 c.enum_told.given.1
 
 add_i : tie.Need-overflow-add-i invariant_loop decreases_loop
 add_i c = search rules
@@ -32,7 +32,7 @@ loop_less : tie.Need-loop-smaller invariant_loop decreases_loop
 loop_less c = search rules
 
 loop_again : tie.Need-loop-preserved invariant_loop decreases_loop
-loop_again c = checking-more c.before.before.before.before.before.loop.invariant c.before.before.before.before.loop-test.true _ _ c.before.before.before.get-signed-op.ensures.0 c.before.reading.given.1
+loop_again c = checking_more c.before.before.before.before.before.loop.invariant c.before.before.before.before.loop-test.true _ _ c.before.before.before.get-signed-op.ensures.0 c.before.reading.given.1
 
 returns_2 : tie.Need-returns-2 invariant_loop decreases_loop
 returns_2 c = checked_all c.before.loop.invariant c.loop-test.false

@@ -1,6 +1,6 @@
 use mathlib.Core.Path.{refl}
 use native.Mathlib.Omega.{arith}
-use Rattle.message.proofs.Decoding.{envelope_read, body_inside, frame_short, no-envelope, body_part, frame-unread, frame-read}
+use Rattle.message.proofs.Decoding.{envelope_read, body_inside, frame_short, no_envelope, body_part, frame_unread, frame_read}
 use borrow.Author.Rules.{rules}
 use Rattle.message.proofs.reader.decode_frame.Statement.{statement}
 use Rattle.message.proofs.reader.decode_frame.Tie as tie
@@ -39,7 +39,7 @@ enum_known_told_2 : tie.Need-enum-known-told-2
 enum_known_told_2 c = search rules
 
 returns_2 : tie.Need-returns-2
-returns_2 c = no-envelope _ _ _ c.before.before.before.before.if1.false c.before.before.before.read-envelope.ensures _ _ c.before.read.given.1 refl refl
+returns_2 c = no_envelope _ _ _ c.before.before.before.before.if1.false c.before.before.before.read-envelope.ensures _ _ c.before.read.given.1 refl refl
 
 same_length : tie.Need-same-length
 same_length c = search rules
@@ -51,7 +51,7 @@ returns_3 : tie.Need-returns-3
 returns_3 c =
     let at = c.before.before.before.before.before.before.before in
     let at₂ = at.before.before.before.before.before in
-    frame-unread _ _ _ at₂.before.before.before.if1.false at₂.before.before.read-envelope.ensures at₂.read2.given.1 _ _ _ (body_part _ _ _) at.decode-message.ensures c.before.told.given.1
+    frame_unread _ _ _ at₂.before.before.before.if1.false at₂.before.before.read-envelope.ensures at₂.read2.given.1 _ _ _ (body_part _ _ _) at.decode-message.ensures c.before.told.given.1
 
 same_length_3 : tie.Need-same-length-3
 same_length_3 c = search rules
@@ -63,7 +63,7 @@ returns_4 : tie.Need-returns-4
 returns_4 c =
     let at = c.before.before.before.before.before.before.before in
     let at₂ = at.before.before.before.before.before in
-    frame-read _ _ _ at₂.before.before.before.if1.false at₂.before.before.read-envelope.ensures at₂.read2.given.1 _ _ _ (body_part _ _ _) at.decode-message.ensures c.before.told2.given.1
+    frame_read _ _ _ at₂.before.before.before.if1.false at₂.before.before.read-envelope.ensures at₂.read2.given.1 _ _ _ (body_part _ _ _) at.decode-message.ensures c.before.told2.given.1
 
 pub decode_frame_spec : {M : Type 1} → statement M
 decode_frame_spec =

@@ -1,5 +1,5 @@
 use mathlib.Core.Path.{refl}
-use Rattle.message.proofs.Decoding.{told, told_refused, hello_told, ack_told, delta_told_lem, ping_told, pong_told, short_clock, unread, short-rows, read-hello, read-ack, read-delta, read-ping, read-pong, is_delta}
+use Rattle.message.proofs.Decoding.{told, told_refused, hello_told, ack_told, delta_told_lem, ping_told, pong_told, short_clock, unread, short_rows, read_hello, read_ack, read_delta, read_ping, read_pong, is_delta}
 use borrow.Author.Rules.{rules}
 use Rattle.message.proofs.reader.decode_message.Statement.{statement}
 use Rattle.message.proofs.reader.decode_message.Tie as tie
@@ -35,7 +35,7 @@ returns_3 : tie.Need-returns-3
 returns_3 c =
     let at = c.before.before.before.before.before.before in
     let w = delta_told_lem (told _ at.read-body.result at.read-body.ensures c.before.before.before.before.enum_told.given.1) c.before.before.kind.given.1 in
-    short-rows _ _ _ at.before.if1.false _ _ w.rs w.is w.count c.if2.true refl refl
+    short_rows _ _ _ at.before.if1.false _ _ w.rs w.is w.count c.if2.true refl refl
 
 write_delta_requires : tie.Need-write-delta-requires
 write_delta_requires c κs =
@@ -62,7 +62,7 @@ returns_4 : tie.Need-returns-4
 returns_4 c =
     let at = c.before.before.before.before.before.before in
     let w = hello_told (told _ at.before.before.read-body.result at.before.before.read-body.ensures at.enum_told.given.1) c.before.before.before.before.enum-told3.given.1 in
-    read-hello _ _ _ at.before.before.before.if1.false _ _ w.es w.is c.before.before.before.before.enum-told3.given.1 w.clock c.before.before.store-clock.ensures refl
+    read_hello _ _ _ at.before.before.before.if1.false _ _ w.es w.is c.before.before.before.before.enum-told3.given.1 w.clock c.before.before.store-clock.ensures refl
 
 same_length_2 : tie.Need-same-length-2
 same_length_2 c = search rules
@@ -72,7 +72,7 @@ returns_5 c =
     let at = c.before.before.before.before.before.before in
     let at₂ = at.before.before.before.before.before in
     let w = delta_told_lem (told _ at.before.before.before.before.read-body.result at.before.before.before.before.read-body.ensures at.before.before.enum_told.given.1) at.kind.given.1 in
-    read-delta _ _ _ at₂.if1.false _ _ w.rs w.is w.count refl c.before.before.before.before.if2.false refl c.before.before.write-delta.ensures
+    read_delta _ _ _ at₂.if1.false _ _ w.rs w.is w.count refl c.before.before.before.before.if2.false refl c.before.before.write-delta.ensures
 
 same_length_3 : tie.Need-same-length-3
 same_length_3 c = search rules
@@ -81,13 +81,13 @@ returns_6 : tie.Need-returns-6
 returns_6 c =
     let at = c.before.before.before.before.before.before in
     let w = ack_told (told _ at.before.before.read-body.result at.before.before.read-body.ensures at.enum_told.given.1) c.before.before.before.before.enum-told4.given.1 in
-    read-ack _ _ _ at.before.before.before.if1.false _ _ w.es w.is c.before.before.before.before.enum-told4.given.1 w.clock c.before.before.store-clock2.ensures refl
+    read_ack _ _ _ at.before.before.before.if1.false _ _ w.es w.is c.before.before.before.before.enum-told4.given.1 w.clock c.before.before.store-clock2.ensures refl
 
 returns_7 : tie.Need-returns-7
-returns_7 c = read-ping _ _ _ c.before.before.before.before.before.if1.false _ _ (ping_told (told _ c.before.before.before.before.read-body.result c.before.before.before.before.read-body.ensures c.before.before.enum_told.given.1) c.enum-told5.given.1) c.enum-told5.given.1 refl refl
+returns_7 c = read_ping _ _ _ c.before.before.before.before.before.if1.false _ _ (ping_told (told _ c.before.before.before.before.read-body.result c.before.before.before.before.read-body.ensures c.before.before.enum_told.given.1) c.enum-told5.given.1) c.enum-told5.given.1 refl refl
 
 returns_8 : tie.Need-returns-8
-returns_8 c = read-pong _ _ _ c.before.before.before.before.before.if1.false _ _ (pong_told (told _ c.before.before.before.before.read-body.result c.before.before.before.before.read-body.ensures c.before.before.enum_told.given.1) c.enum-told6.given.1) c.enum-told6.given.1 refl refl
+returns_8 c = read_pong _ _ _ c.before.before.before.before.before.if1.false _ _ (pong_told (told _ c.before.before.before.before.read-body.result c.before.before.before.before.read-body.ensures c.before.before.enum_told.given.1) c.enum-told6.given.1) c.enum-told6.given.1 refl refl
 
 pub decode_message_spec : {M : Type 1} → statement M
 decode_message_spec =

@@ -7,7 +7,7 @@ use Rattle.clock.specs.Inside.Columns.{in_columns, room_of}
 use Rattle.codec.proofs.ReadSteps.{value_read}
 use Rattle.row.proofs.ReadSteps.{number_refused}
 use Rattle.message.proofs.CountedReads.{count_got}
-use Rattle.message.proofs.ClockPairs.{Entering, entering_none, entered_all, entering-stops, entering-more, entering-room, no_count, counted, pair_read, pair_refused}
+use Rattle.message.proofs.ClockPairs.{Entering, entering_none, entered_all, entering_stops, entering_more, entering_room, no_count, counted, pair_read, pair_refused}
 use Rattle.message.proofs.reader.get_clock.Statement.{statement}
 use Rattle.message.proofs.reader.get_clock.Tie as tie
 
@@ -59,7 +59,7 @@ returns_2 c =
     let at₂ = at.before.before.before.before.before in
     c.no-clock2.ensures
     ∙ counted _ _ _ (value_read at₂.count-within.ensures at.before.before.before.told.given.1)
-    (entering-stops at.before.loop.invariant.2 at.loop-test.true (pair_refused c.before.before.before.before.get-pair.ensures c.before.before.enum-told2.given.1 c.before.pair-fault.ensures))
+    (entering_stops at.before.loop.invariant.2 at.loop-test.true (pair_refused c.before.before.before.before.get-pair.ensures c.before.before.enum-told2.given.1 c.before.pair-fault.ensures))
 
 slice_aggregate_enter_in : tie.Need-slice-aggregate-enter-in invariant_loop decreases_loop
 slice_aggregate_enter_in c = search rules
@@ -86,7 +86,7 @@ returns_3 c =
     let at = c.before.before.before.before.before in
     let at₂ = at.before.before.before.before.before.before in
     absurd
-    (entering-room at₂.before.before.loop.invariant.2 at₂.before.loop-test.true _ _ _ (pair_read at₂.get-pair.ensures at.before.before.before.before.pair.given.1)
+    (entering_room at₂.before.before.loop.invariant.2 at₂.before.loop-test.true _ _ _ (pair_read at₂.get-pair.ensures at.before.before.before.before.pair.given.1)
     (ap (room_of (in_columns at₂.before.before.loop.authors at₂.before.before.loop.numbers at₂.before.before.loop.count) at.enter-in.new.0 at.enter-in.new.1.0) (sym c.before.enum-told3.given.1) ∙ at.enter-in.ensures))
 
 add_i : tie.Need-overflow-add-i invariant_loop decreases_loop
@@ -101,7 +101,7 @@ loop_again c =
     let at₂ = at.before.before.before.before.before.before in (
       search rules,
       search rules,
-      entering-more at₂.before.before.loop.invariant.2 at₂.before.loop-test.true _ _ _ (pair_read at₂.get-pair.ensures at.before.before.before.before.pair.given.1) _ _ _
+      entering_more at₂.before.before.loop.invariant.2 at₂.before.loop-test.true _ _ _ (pair_read at₂.get-pair.ensures at.before.before.before.before.pair.given.1) _ _ _
           (ap (room_of (in_columns at₂.before.before.loop.authors at₂.before.before.loop.numbers at₂.before.before.loop.count) at.enter-in.new.0 at.enter-in.new.1.0) (sym c.before.room.given.1) ∙ at.enter-in.ensures),
     )
 

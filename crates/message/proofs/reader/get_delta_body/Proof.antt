@@ -1,7 +1,7 @@
 use mathlib.Core.Path.{◌∙◌}
 use Rattle.codec.proofs.ReadSteps.{value_read}
 use Rattle.row.proofs.ReadSteps.{number_refused}
-use Rattle.message.proofs.Bodies.{delta_no_count, delta-no-rows, delta-rows}
+use Rattle.message.proofs.Bodies.{delta_no_count, delta_no_rows, delta_rows_lem}
 use borrow.Author.Rules.{rules}
 use Rattle.message.proofs.reader.get_delta_body.Statement.{statement}
 use Rattle.message.proofs.reader.get_delta_body.Tie as tie
@@ -42,7 +42,7 @@ no_body_requires_2 c κs = search rules
 returns_2 : tie.Need-returns-2
 returns_2 c =
     let at = c.before.before.before.before.before.before in
-    c.no-body2.ensures ∙ delta-no-rows _ _ (value_read at.before.before.count-within.ensures at.told.given.1) _ c.before.before.before.before.check-rows.ensures c.before.before.enum-told2.given.1 c.before.fault-of.ensures
+    c.no-body2.ensures ∙ delta_no_rows _ _ (value_read at.before.before.count-within.ensures at.told.given.1) _ c.before.before.before.before.check-rows.ensures c.before.before.enum-told2.given.1 c.before.fault-of.ensures
 
 plain_body_requires : tie.Need-plain-body-requires
 plain_body_requires c κs = search rules
@@ -50,7 +50,7 @@ plain_body_requires c κs = search rules
 returns_3 : tie.Need-returns-3
 returns_3 c =
     let at = c.before.before.before.before.before.before in
-    c.plain_body.ensures ∙ delta-rows _ _ (value_read at.before.before.count-within.ensures at.told.given.1) _ c.before.before.before.before.check-rows.ensures c.before.before.reading.given.1
+    c.plain_body.ensures ∙ delta_rows_lem _ _ (value_read at.before.before.count-within.ensures at.told.given.1) _ c.before.before.before.before.check-rows.ensures c.before.before.reading.given.1
 
 pub get_delta_body_spec : {M : Type 1} → statement M
 get_delta_body_spec =

@@ -73,7 +73,7 @@ returns_3 c =
     let at = c.before.before.before.before.before.before in
     let at₂ = at.before.before.before.before.before.before in
     let e = c.no-signed-op3.ensures in
-    (no_row_lem _ _ _ e (on _ (head_read at₂.get_head_lem.ensures at.before.before.before.before.head.given.1) (on _ (clock_read _ _ _ at.before.before.get-clock.ensures at.reading.given.1).is (off _ (part_refused c.before.before.before.before.bytes-within.ensures c.before.before.enum-told3.given.1 ∙ ap bad (sym c.before.part-fault.ensures))))), no_fits _ _ e)
+    (no_row_lem _ _ _ e (on _ (head_read at₂.get_head_lem.ensures at.before.before.before.before.head.given.1) (on _ (clock_read _ _ _ at.before.before.get-clock.ensures at.reading.given.1).is (off _ (part_refused c.before.before.before.before.bytes_within_lem.ensures c.before.before.enum-told3.given.1 ∙ ap bad (sym c.before.part-fault.ensures))))), no_fits _ _ e)
 
 bytes_within_requires_2 : tie.Need-bytes-within-requires-2
 bytes_within_requires_2 c κs = search rules
@@ -96,7 +96,7 @@ returns_4 c =
     let at = c.before.before.before.before.before.before in
     let at₂ = at.before.before.before.before.before.before in
     let e = c.no-signed-op4.ensures in
-    (no_row_lem _ _ _ e (on _ (head_read at₂.before.before.before.before.get_head_lem.ensures at₂.before.before.head.given.1) (on _ (clock_read _ _ _ at₂.get-clock.ensures at.before.before.before.before.reading.given.1).is (on _ (part_read at.before.before.bytes-within.ensures at.payload.given.1) (off _ (part_refused c.before.before.before.before.bytes-within2.ensures c.before.before.enum-told4.given.1 ∙ ap bad (sym c.before.part-fault2.ensures)))))), no_fits _ _ e)
+    (no_row_lem _ _ _ e (on _ (head_read at₂.before.before.before.before.get_head_lem.ensures at₂.before.before.head.given.1) (on _ (clock_read _ _ _ at₂.get-clock.ensures at.before.before.before.before.reading.given.1).is (on _ (part_read at.before.before.bytes_within_lem.ensures at.payload.given.1) (off _ (part_refused c.before.before.before.before.bytes-within2.ensures c.before.before.enum-told4.given.1 ∙ ap bad (sym c.before.part-fault2.ensures)))))), no_fits _ _ e)
 
 deps_of_requires : tie.Need-deps-of-requires
 deps_of_requires c κs =
@@ -110,7 +110,7 @@ returns_5 c =
     let at₂ = at.before.before.before.before.before.before in
     let at₃ = at₂.before.before.before.before.before.before in
     let clock = (clock_read _ _ _ at₂.before.before.get-clock.ensures at₂.reading.given.1) in
-    let payload = part_read at.before.before.before.before.bytes-within.ensures at.before.before.payload.given.1 in
+    let payload = part_read at.before.before.before.before.bytes_within_lem.ensures at.before.before.payload.given.1 in
     let signature = part_read at.bytes-within2.ensures c.before.before.before.signature.given.1 in
     let deps = c.deps_of_lem.ensures in (
       on _ (head_read at₃.get_head_lem.ensures at₂.before.before.before.before.head.given.1) (on _ clock.is (on _ payload (on _ signature (row_is _ _ _ _ _ _ _ _ deps.0 clock.clock)))),

@@ -1,6 +1,6 @@
 use borrow.Author.Rules.{rules}
 use Prim.Native.Nat.{◌-◌}
-use Rattle.message.proofs.RowLoops.{Writing, writing_none, writing_size, written_all, writing-goes-on, slot-room, writing_more}
+use Rattle.message.proofs.RowLoops.{Writing, writing_none, writing_size, written_all, writing_goes_on, slot_room, writing_more}
 use Rattle.message.proofs.reader.write_rows.Statement.{statement}
 use Rattle.message.proofs.reader.write_rows.Tie as tie
 
@@ -26,12 +26,12 @@ same_length : tie.Need-same-length invariant_loop decreases_loop
 same_length c = writing_size c.before.before.before.before.loop.invariant
 
 returns : tie.Need-returns invariant_loop decreases_loop
-returns c = absurd (writing-goes-on c.before.before.before.before.loop.invariant c.before.before.before.loop-test.true _ _ c.before.before.get-signed-op.ensures.0 c.enum_told.given.1)
+returns c = absurd (writing_goes_on c.before.before.before.before.loop.invariant c.before.before.before.loop-test.true _ _ c.before.before.get-signed-op.ensures.0 c.enum_told.given.1)
 
 write_row_requires : tie.Need-write-row-requires invariant_loop decreases_loop
 write_row_requires c κs =
     let at = c.before.before.before.before.before in
-    (at.get-signed-op.ensures.1 _ c.before.before.before.reading.given.1, slot-room at.before.before.loop.invariant at.before.loop-test.true)
+    (at.get-signed-op.ensures.1 _ c.before.before.before.reading.given.1, slot_room at.before.before.loop.invariant at.before.loop-test.true)
 
 add_i : tie.Need-overflow-add-i invariant_loop decreases_loop
 add_i c = search rules

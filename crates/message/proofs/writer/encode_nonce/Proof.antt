@@ -1,7 +1,7 @@
 use Rattle.codec.specs.Leb128.{shortest}
 use native.Mathlib.Omega.{arith}
 use Rattle.row.proofs.PartLengths.{number_few}
-use Rattle.message.proofs.TaggedWrites.{tag-found, behind-found, tagged-put, tagged_short}
+use Rattle.message.proofs.TaggedWrites.{tag_found, behind_found, tagged_put, tagged_short}
 use borrow.Author.Rules.{rules}
 use Rattle.message.proofs.writer.encode_nonce.Statement.{statement}
 use Rattle.message.proofs.writer.encode_nonce.Tie as tie
@@ -21,13 +21,13 @@ enum_told c = search rules
 store_tag_requires : tie.Need-store-tag-requires
 store_tag_requires c κs =
     let at = c.before.before.before.before.before.before in
-    tag-found at.args.out.now at.args.tag (shortest at.args.nonce) c.before.before.before.before.varint-len.ensures c.before.before.before.past.ensures c.before.enum_told.given.1
+    tag_found at.args.out.now at.args.tag (shortest at.args.nonce) c.before.before.before.before.varint-len.ensures c.before.before.before.past.ensures c.before.enum_told.given.1
 
 store_varint_requires : tie.Need-store-varint-requires
 store_varint_requires c κs =
     let at = c.before.before.before.before.before in
     let at₂ = at.before.before.before.before.before in
-    behind-found at₂.args.out.now at₂.args.tag (shortest at₂.args.nonce) at.before.before.before.varint-len.ensures at.before.before.past.ensures at.enum_told.given.1 c.before.before.before.store-tag.ensures
+    behind_found at₂.args.out.now at₂.args.tag (shortest at₂.args.nonce) at.before.before.before.varint-len.ensures at.before.before.past.ensures at.enum_told.given.1 c.before.before.before.store-tag.ensures
 
 enum_known_end : tie.Need-enum-known-end
 enum_known_end c = search rules
@@ -39,7 +39,7 @@ returns : tie.Need-returns
 returns c =
     let at = c.before.before.before.before.before.before in
     let at₂ = at.before.before.before.before.before.before.before in
-    tagged-put at₂.args.out.now at₂.args.tag (shortest at₂.args.nonce) at.before.before.before.before.before.varint-len.ensures at.before.before.before.before.past.ensures at.before.before.enum_told.given.1 at.store-tag.ensures c.before.before.store-varint.ensures
+    tagged_put at₂.args.out.now at₂.args.tag (shortest at₂.args.nonce) at.before.before.before.before.before.varint-len.ensures at.before.before.before.before.past.ensures at.before.before.enum_told.given.1 at.store-tag.ensures c.before.before.store-varint.ensures
 
 returns_2 : tie.Need-returns-2
 returns_2 c =

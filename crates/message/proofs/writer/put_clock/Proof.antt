@@ -1,6 +1,6 @@
 use Rattle.clock.specs.Vector.{entries}
 use Rattle.row.specs.Wire.{deps_bytes}
-use Rattle.message.proofs.TaggedWrites.{tag-found, behind-found, tagged-put, tagged_short}
+use Rattle.message.proofs.TaggedWrites.{tag_found, behind_found, tagged_put, tagged_short}
 use borrow.Author.Rules.{rules}
 use Rattle.message.proofs.writer.put_clock.Statement.{statement}
 use Rattle.message.proofs.writer.put_clock.Tie as tie
@@ -20,13 +20,13 @@ enum_told c = search rules
 store_tag_requires : tie.Need-store-tag-requires
 store_tag_requires c κs =
     let at = c.before.before.before.before.before.before in
-    tag-found at.args.out.now at.args.tag (deps_bytes (entries at.args.c)) c.before.before.before.before.entries-len.ensures.0 c.before.before.before.past.ensures c.before.enum_told.given.1
+    tag_found at.args.out.now at.args.tag (deps_bytes (entries at.args.c)) c.before.before.before.before.entries-len.ensures.0 c.before.before.before.past.ensures c.before.enum_told.given.1
 
 store_entries_requires : tie.Need-store-entries-requires
 store_entries_requires c κs =
     let at = c.before.before.before.before.before in
     let at₂ = at.before.before.before.before.before in
-    (at₂.requires, behind-found at₂.args.out.now at₂.args.tag (deps_bytes (entries at₂.args.c)) at.before.before.before.entries-len.ensures.0 at.before.before.past.ensures at.enum_told.given.1 c.before.before.before.store-tag.ensures)
+    (at₂.requires, behind_found at₂.args.out.now at₂.args.tag (deps_bytes (entries at₂.args.c)) at.before.before.before.entries-len.ensures.0 at.before.before.past.ensures at.enum_told.given.1 c.before.before.before.store-tag.ensures)
 
 enum_known_end : tie.Need-enum-known-end
 enum_known_end c = search rules
@@ -38,7 +38,7 @@ returns : tie.Need-returns
 returns c =
     let at = c.before.before.before.before.before.before in
     let at₂ = at.before.before.before.before.before.before.before in
-    tagged-put at₂.args.out.now at₂.args.tag (deps_bytes (entries at₂.args.c)) at.before.before.before.before.before.entries-len.ensures.0 at.before.before.before.before.past.ensures at.before.before.enum_told.given.1 at.store-tag.ensures c.before.before.store-entries.ensures
+    tagged_put at₂.args.out.now at₂.args.tag (deps_bytes (entries at₂.args.c)) at.before.before.before.before.before.entries-len.ensures.0 at.before.before.before.before.past.ensures at.before.before.enum_told.given.1 at.store-tag.ensures c.before.before.store-entries.ensures
 
 returns_2 : tie.Need-returns-2
 returns_2 c =

@@ -17,7 +17,7 @@ refuse_requires c κs = search rules
 
 returns : tie.Need-returns
 unfolding absorb_call
-returns c = unsound c.before.before.before.args.self _ _ (sym c.before.before.is-sound.ensures ∙ not-true _ c.before.if1.true) c.refuse.ensures
+returns c = unsound c.before.before.before.args.self _ _ (sym c.before.before.is_sound.ensures ∙ not-true _ c.before.if1.true) c.refuse.ensures
 
 merge_requires : tie.Need-merge-requires
 merge_requires c κs = search rules
@@ -29,7 +29,7 @@ returns_2 : tie.Need-returns-2
 unfolding absorb_call
 returns_2 c =
     let args = c.before.before.before.before.before.before.args in
-    on_sound_lem args.self (sym c.before.before.before.before.before.is-sound.ensures ∙ not-false _ c.before.before.before.before.if1.false) _ _ ((λ i. ends (outcome_of c.before.before.merge.result.outcome) (c.with-clock.ensures i)) ∙ (λ i. absorbed args.self (c.before.before.merge.ensures.ended i)))
+    on_sound_lem args.self (sym c.before.before.before.before.before.is_sound.ensures ∙ not-false _ c.before.before.before.before.if1.false) _ _ ((λ i. ends (outcome_of c.before.before.merge.result.outcome) (c.with-clock.ensures i)) ∙ (λ i. absorbed args.self (c.before.before.merge.ensures.ended i)))
 
 pub absorb_clock_spec : {M : Type 1} → statement M
 absorb_clock_spec =

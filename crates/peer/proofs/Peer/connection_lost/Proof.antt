@@ -15,7 +15,7 @@ refuse_requires c κs = search rules
 
 returns : tie.Need-returns
 unfolding lost_call
-returns c = unsound c.before.before.before.args.self _ _ (sym c.before.before.is-sound.ensures ∙ not-true _ c.before.if1.true) c.refuse.ensures
+returns c = unsound c.before.before.before.args.self _ _ (sym c.before.before.is_sound.ensures ∙ not-true _ c.before.if1.true) c.refuse.ensures
 
 with_times_requires : tie.Need-with-times-requires
 with_times_requires c κs = search rules
@@ -25,7 +25,7 @@ done_requires c κs = search rules
 
 returns_2 : tie.Need-returns-2
 unfolding lost_call
-returns_2 c = on_sound_lem c.before.before.before.before.args.self (sym c.before.before.before.is-sound.ensures ∙ not-false _ c.before.before.if1.false) _ _ (c.done.ensures ∙ (λ i. ends (done nothing) (c.before.with-times.ensures i)))
+returns_2 c = on_sound_lem c.before.before.before.before.args.self (sym c.before.before.before.is_sound.ensures ∙ not-false _ c.before.before.if1.false) _ _ (c.done.ensures ∙ (λ i. ends (done nothing) (c.before.with-times.ensures i)))
 
 pub connection_lost_spec : {M : Type 1} → statement M
 connection_lost_spec =

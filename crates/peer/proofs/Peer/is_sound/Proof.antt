@@ -13,7 +13,7 @@ is_sound_requires : tie.Need-is-sound-requires
 is_sound_requires c κs = search rules
 
 returns_3 : tie.Need-returns-3
-returns_3 c = sound_rest _ _ c.before.before.before.before.before.if1.false c.before.before.if2.false c.is-sound.ensures
+returns_3 c = sound_rest _ _ c.before.before.before.before.before.if1.false c.before.before.if2.false c.is_sound.ensures
 
 pub is_sound_spec : {M : Type 1} → statement M
 is_sound_spec = tie.close (tie.spec returns returns_2 is_sound_requires returns_3)

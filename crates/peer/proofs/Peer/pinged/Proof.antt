@@ -15,17 +15,17 @@ refuse_requires c κs = search rules
 
 returns : tie.Need-returns
 unfolding record_ping_call
-returns c = unsound c.before.before.before.args.self _ _ (sym c.before.before.is-sound.ensures ∙ not-true _ c.before.if1.true) c.refuse.ensures
+returns c = unsound c.before.before.before.args.self _ _ (sym c.before.before.is_sound.ensures ∙ not-true _ c.before.if1.true) c.refuse.ensures
 
 with_ping_requires : tie.Need-with-ping-requires
-with_ping_requires c κs = (few_sent _ (sym c.before.is-sound.ensures ∙ not-false _ c.if1.false), few_answered _ (sym c.before.is-sound.ensures ∙ not-false _ c.if1.false))
+with_ping_requires c κs = (few_sent _ (sym c.before.is_sound.ensures ∙ not-false _ c.if1.false), few_answered _ (sym c.before.is_sound.ensures ∙ not-false _ c.if1.false))
 
 done_requires : tie.Need-done-requires
 done_requires c κs = search rules
 
 returns_2 : tie.Need-returns-2
 unfolding record_ping_call
-returns_2 c = on_sound_lem c.before.before.before.before.args.self (sym c.before.before.before.is-sound.ensures ∙ not-false _ c.before.before.if1.false) _ _ (c.done.ensures ∙ (λ i. ends (done nothing) (c.before.with-ping.ensures i)))
+returns_2 c = on_sound_lem c.before.before.before.before.args.self (sym c.before.before.before.is_sound.ensures ∙ not-false _ c.before.before.if1.false) _ _ (c.done.ensures ∙ (λ i. ends (done nothing) (c.before.with-ping.ensures i)))
 
 pub pinged_spec : {M : Type 1} → statement M
 pinged_spec =

@@ -16,7 +16,7 @@ refuse_requires c κs = search rules
 
 returns : tie.Need-returns
 unfolding rebase_call
-returns c = unsound c.before.before.before.args.self _ _ (sym c.before.before.is-sound.ensures ∙ not-true _ c.before.if1.true) c.refuse.ensures
+returns c = unsound c.before.before.before.args.self _ _ (sym c.before.before.is_sound.ensures ∙ not-true _ c.before.if1.true) c.refuse.ensures
 
 rebased_requires : tie.Need-rebased-requires
 rebased_requires c κs = search rules
@@ -38,7 +38,7 @@ unfolding rebase_call
 returns_2 c =
     let at = c.before.before.before.before.before.before in
     let args = at.before.args in
-    on_sound_lem args.self (sym at.is-sound.ensures ∙ not-false _ c.before.before.before.before.before.if1.false) _ _ (c.done.ensures ∙ (λ i. ends (done nothing) (c.before.with-times.ensures i)) ∙ (λ i. ends (done nothing) (with_times args.self args.self.state (c.before.before.before.before.rebased.ensures i) (c.before.before.before.rebased2.ensures i) (c.before.before.rebased3.ensures i))))
+    on_sound_lem args.self (sym at.is_sound.ensures ∙ not-false _ c.before.before.before.before.before.if1.false) _ _ (c.done.ensures ∙ (λ i. ends (done nothing) (c.before.with-times.ensures i)) ∙ (λ i. ends (done nothing) (with_times args.self args.self.state (c.before.before.before.before.rebased.ensures i) (c.before.before.before.rebased2.ensures i) (c.before.before.rebased3.ensures i))))
 
 pub rebase_timers_spec : {M : Type 1} → statement M
 rebase_timers_spec =

@@ -1,6 +1,6 @@
 use mathlib.Core.Path.{sym, ◌∙◌, ap}
 use Rattle.row.specs.Rows.{Row}
-use Rattle.working.proofs.ReferenceRows.{ok_held, ok_batch, row_held, row_batch, head-fields, no_head_lem}
+use Rattle.working.proofs.ReferenceRows.{ok_held, ok_batch, row_held, row_batch, head_fields, no_head_lem}
 use borrow.Author.Rules.{rules}
 use Rattle.quota.proofs.authors.author_of.Statement.{statement}
 use Rattle.quota.proofs.authors.author_of.Tie as tie
@@ -28,7 +28,7 @@ returns_2 : tie.Need-returns-2
 returns_2 c = absurd (no_head_lem _ _ _ (ok_batch _ _ _ c.before.before.before.if1.false c.before.before.before.before.before.before.requires) (sym c.before.before.read_head.ensures ∙ ap head_of c.enum_told.given.1))
 
 returns_3 : tie.Need-returns-3
-returns_3 c = sym (ap (λ (r : Row). r.author) (row_batch _ _ _ c.before.before.before.before.if1.false) ∙ (head-fields _ _ _ _ (ok_batch _ _ _ c.before.before.before.before.if1.false c.before.before.before.before.before.before.before.requires) (sym c.before.before.before.read_head.ensures ∙ ap head_of c.before.actor.given.1)).1)
+returns_3 c = sym (ap (λ (r : Row). r.author) (row_batch _ _ _ c.before.before.before.before.if1.false) ∙ (head_fields _ _ _ _ (ok_batch _ _ _ c.before.before.before.before.if1.false c.before.before.before.before.before.before.before.requires) (sym c.before.before.before.read_head.ensures ∙ ap head_of c.before.actor.given.1)).1)
 
 pub author_of_spec : {M : Type 1} → statement M
 author_of_spec =

@@ -4,7 +4,7 @@ use mathlib.Core.Path.{refl, ap, ◌∙◌}
 use mathlib.Core.Logic.{⊎_elim}
 use native.Mathlib.Omega.{arith}
 use Rattle.quota.specs.Inside.Authors.{over_of}
-use Rattle.quota.proofs.AuthorCounts.{Lowest, lowest_start, lowest-yes, lowest-no, lowest_end}
+use Rattle.quota.proofs.AuthorCounts.{Lowest, lowest_start, lowest_yes, lowest_no, lowest_end}
 use Rattle.quota.proofs.authors.lowest_over.Statement.{statement}
 use Rattle.quota.proofs.authors.lowest_over.Tie as tie
 
@@ -38,7 +38,7 @@ loop_less c = omega arith
 loop_again : tie.Need-loop-preserved invariant_loop decreases_loop
 loop_again c =
     let at = c.before.before.before.before.before.before in
-    ⊎_elim (λ w. (omega arith, lowest-yes _ _ _ _ c.before.before.before.before.loop.i _ _ c.before.before.before.loop-test.true at.requires refl c.before.count_of.ensures c.before.before.before.before.loop.invariant.1 _ w.0.taken (ap over_of w.2 ∙ w.1.ensures))) (λ w. (omega arith, lowest-no _ _ _ _ c.before.before.before.before.loop.i _ _ c.before.before.before.loop-test.true at.requires refl c.before.count_of.ensures c.before.before.before.before.loop.invariant.1 _ w.0.left (ap over_of w.1))) c.if1.branch
+    ⊎_elim (λ w. (omega arith, lowest_yes _ _ _ _ c.before.before.before.before.loop.i _ _ c.before.before.before.loop-test.true at.requires refl c.before.count_of.ensures c.before.before.before.before.loop.invariant.1 _ w.0.taken (ap over_of w.2 ∙ w.1.ensures))) (λ w. (omega arith, lowest_no _ _ _ _ c.before.before.before.before.loop.i _ _ c.before.before.before.loop-test.true at.requires refl c.before.count_of.ensures c.before.before.before.before.loop.invariant.1 _ w.0.left (ap over_of w.1))) c.if1.branch
 
 returns : tie.Need-returns invariant_loop decreases_loop
 returns c = lowest_end _ _ _ _ c.before.loop.i c.loop-test.false c.before.before.before.requires c.before.loop.invariant.1

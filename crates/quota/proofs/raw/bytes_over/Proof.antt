@@ -1,4 +1,4 @@
-use Rattle.quota.proofs.AuthorCounts.{bytes-within, bytes_are}
+use Rattle.quota.proofs.AuthorCounts.{bytes_within_lem, bytes_are}
 use borrow.Author.Rules.{rules}
 use Rattle.quota.proofs.raw.bytes_over.Statement.{statement}
 use Rattle.quota.proofs.raw.bytes_over.Tie as tie
@@ -7,7 +7,7 @@ mul_if1 : tie.Need-overflow-mul-if1
 mul_if1 c = search rules
 
 returns : tie.Need-returns
-returns c = bytes-within _ _ _ _ _ c.before.before.before.before.requires.0.refs c.if1.true
+returns c = bytes_within_lem _ _ _ _ _ c.before.before.before.before.requires.0.refs c.if1.true
 
 payload_bytes_requires : tie.Need-payload-bytes-requires
 payload_bytes_requires c κs = search rules

@@ -6,7 +6,7 @@ use Rattle.words.specs.Be.{get64}
 use Rattle.clock.specs.Vector.{changed_of, outcome_of}
 use Rattle.log.proofs.Calls.Restoration.{entries_few}
 use Rattle.quota.proofs.AuthorCounts.{ref_at_lem}
-use Rattle.quota.proofs.RoomTest.{Running, run_start, run_turn, run-not, run_end}
+use Rattle.quota.proofs.RoomTest.{Running, run_start, run_turn, run_not, run_end}
 use Rattle.quota.proofs.room.authors_fit.Statement.{statement}
 use Rattle.quota.proofs.room.authors_fit.Tie as tie
 
@@ -43,7 +43,7 @@ enum_told_2 c = search rules
 returns : tie.Need-returns invariant_loop decreases_loop
 returns c =
     let at = c.before.before.before.before.before.before in
-    run-not _ _ _ _ _ _ at.loop.i _ _ (changed_of c.before.before.observed.result) c.before.before.before.before.before.loop-test.true at.loop.invariant.1 c.before.before.before.before.get-word.ensures c.before.before.before.author-of.ensures c.before.before.observed.ensures _ (ap outcome_of c.enum-told2.given.1)
+    run_not _ _ _ _ _ _ at.loop.i _ _ (changed_of c.before.before.observed.result) c.before.before.before.before.before.loop-test.true at.loop.invariant.1 c.before.before.before.before.get-word.ensures c.before.before.before.author-of.ensures c.before.before.observed.ensures _ (ap outcome_of c.enum-told2.given.1)
 
 add_i : tie.Need-overflow-add-i invariant_loop decreases_loop
 add_i c = search rules

@@ -4,7 +4,7 @@ use mathlib.Core.Path.{sym, ◌∙◌}
 use native.Mathlib.Omega.{arith}
 use borrow.Author.Tests.{not-true, not-false}
 use Rattle.clock.specs.Vector.{entries}
-use Rattle.sync.proofs.DeltaLoops.{Tallying, tallying_start, tallying-skip, tallying-next, tallying-grow, tallying-none, tallying-last}
+use Rattle.sync.proofs.DeltaLoops.{Tallying, tallying_start, tallying_skip, tallying_next, tallying_grow, tallying_none, tallying_last}
 use Rattle.sync.proofs.chunk.count_chunks.Statement.{statement}
 use Rattle.sync.proofs.chunk.count_chunks.Tie as tie
 
@@ -32,7 +32,7 @@ loop_less c = search rules
 loop_again : tie.Need-loop-preserved invariant_loop decreases_loop
 loop_again c =
     let at = c.before.before.before in
-    tallying-skip _ _ _ _ _ at.loop.i _ _ _ at.loop.invariant c.before.before.loop-test.true (sym (not-true _ c.if1.true) ∙ c.before.is-missing.ensures)
+    tallying_skip _ _ _ _ _ at.loop.i _ _ _ at.loop.invariant c.before.before.loop-test.true (sym (not-true _ c.if1.true) ∙ c.before.is-missing.ensures)
 
 row_size_requires : tie.Need-row-size-requires invariant_loop decreases_loop
 row_size_requires c κs = c.before.before.before.before.before.requires.slots c.before.before.before.loop.i c.before.before.loop-test.true
@@ -53,7 +53,7 @@ loop_again_2 : tie.Need-loop-preserved-2 invariant_loop decreases_loop
 loop_again_2 c =
     let row = c.before.before in
     let at = row.before.before.before.before in
-    tallying-next _ _ _ _ _ at.loop.i at.loop.k at.loop.count at.loop.size at.loop.invariant row.before.before.before.loop-test.true (sym (not-false _ row.before.if1.false) ∙ row.before.before.is-missing.ensures) _ row.row-size.ensures.0 row.row-size.ensures.1 (sym c.if2.true ∙ c.before.starts-next.ensures)
+    tallying_next _ _ _ _ _ at.loop.i at.loop.k at.loop.count at.loop.size at.loop.invariant row.before.before.before.loop-test.true (sym (not-false _ row.before.if1.false) ∙ row.before.before.is-missing.ensures) _ row.row-size.ensures.0 row.row-size.ensures.1 (sym c.if2.true ∙ c.before.starts-next.ensures)
 
 add_count : tie.Need-overflow-add-count invariant_loop decreases_loop
 add_count c = search rules
@@ -68,16 +68,16 @@ loop_again_3 : tie.Need-loop-preserved-3 invariant_loop decreases_loop
 loop_again_3 c =
     let row = c.before.before in
     let at = row.before.before.before.before in
-    tallying-grow _ _ _ _ _ at.loop.i at.loop.k at.loop.count at.loop.size at.loop.invariant row.before.before.before.loop-test.true (sym (not-false _ row.before.if1.false) ∙ row.before.before.is-missing.ensures) _ row.row-size.ensures.0 row.row-size.ensures.1 (sym c.if2.false ∙ c.before.starts-next.ensures)
+    tallying_grow _ _ _ _ _ at.loop.i at.loop.k at.loop.count at.loop.size at.loop.invariant row.before.before.before.loop-test.true (sym (not-false _ row.before.if1.false) ∙ row.before.before.is-missing.ensures) _ row.row-size.ensures.0 row.row-size.ensures.1 (sym c.if2.false ∙ c.before.starts-next.ensures)
 
 returns : tie.Need-returns invariant_loop decreases_loop
-returns c = tallying-none _ _ _ _ _ c.before.before.loop.i _ _ _ c.before.before.loop.invariant (omega arith) c.if3.true
+returns c = tallying_none _ _ _ _ _ c.before.before.loop.i _ _ _ c.before.before.loop.invariant (omega arith) c.if3.true
 
 add_result : tie.Need-overflow-add-result invariant_loop decreases_loop
 add_result c = search rules
 
 returns_2 : tie.Need-returns-2 invariant_loop decreases_loop
-returns_2 c = tallying-last _ _ _ _ _ c.before.before.loop.i _ _ _ c.before.before.loop.invariant (omega (arith, c.before.loop-test.false)) c.if3.false
+returns_2 c = tallying_last _ _ _ _ _ c.before.before.loop.i _ _ _ c.before.before.loop.invariant (omega (arith, c.before.loop-test.false)) c.if3.false
 
 pub count_chunks_spec : {M : Type 1} → statement M
 count_chunks_spec =

@@ -4,7 +4,7 @@ use mathlib.Core.Path.{sym, ◌∙◌}
 use native.Mathlib.Omega.{arith}
 use borrow.Author.Tests.{not-true, not-false}
 use Rattle.clock.specs.Vector.{entries}
-use Rattle.sync.proofs.DeltaLoops.{Chunking, chunking_start, chunking-skip, chunking-put, chunking-grow, chunking-none, chunking-last}
+use Rattle.sync.proofs.DeltaLoops.{Chunking, chunking_start, chunking_skip, chunking_put, chunking_grow, chunking_none, chunking_last}
 use Rattle.sync.proofs.chunk.write_chunks.Statement.{statement}
 use Rattle.sync.proofs.chunk.write_chunks.Tie as tie
 
@@ -30,7 +30,7 @@ loop_less : tie.Need-loop-smaller invariant_loop decreases_loop
 loop_less c = search rules
 
 loop_again : tie.Need-loop-preserved invariant_loop decreases_loop
-loop_again c = chunking-skip _ _ _ _ _ _ _ c.before.before.before.loop.i _ _ _ c.before.before.before.loop.invariant c.before.before.loop-test.true (sym (not-true _ c.if1.true) ∙ c.before.is-missing.ensures)
+loop_again c = chunking_skip _ _ _ _ _ _ _ c.before.before.before.loop.i _ _ _ c.before.before.before.loop.invariant c.before.before.loop-test.true (sym (not-true _ c.if1.true) ∙ c.before.is-missing.ensures)
 
 row_size_requires : tie.Need-row-size-requires invariant_loop decreases_loop
 row_size_requires c κs = c.before.before.before.before.before.before.requires.0.slots c.before.before.before.loop.i c.before.before.loop-test.true
@@ -57,7 +57,7 @@ loop_again_2 : tie.Need-loop-preserved-2 invariant_loop decreases_loop
 loop_again_2 c =
     let at = c.before.before.before.before.before.before in
     let at₂ = at.before.before.before.before in
-    chunking-put _ _ _ _ _ _ _ at₂.loop.i at₂.loop.k at₂.loop.count at₂.loop.size at₂.loop.invariant at.before.before.before.loop-test.true (sym (not-false _ at.before.if1.false) ∙ at.before.before.is-missing.ensures) _ at.row-size.ensures.0 at.row-size.ensures.1 _ (sym c.before.before.before.before.if2.true ∙ c.before.before.before.before.before.starts-next.ensures) at₂.before.before.before.requires.1 c.before.before.put_word.ensures
+    chunking_put _ _ _ _ _ _ _ at₂.loop.i at₂.loop.k at₂.loop.count at₂.loop.size at₂.loop.invariant at.before.before.before.loop-test.true (sym (not-false _ at.before.if1.false) ∙ at.before.before.is-missing.ensures) _ at.row-size.ensures.0 at.row-size.ensures.1 _ (sym c.before.before.before.before.if2.true ∙ c.before.before.before.before.before.starts-next.ensures) at₂.before.before.before.requires.1 c.before.before.put_word.ensures
 
 add_count : tie.Need-overflow-add-count invariant_loop decreases_loop
 add_count c = search rules
@@ -71,13 +71,13 @@ loop_less_3 c = search rules
 loop_again_3 : tie.Need-loop-preserved-3 invariant_loop decreases_loop
 loop_again_3 c =
     let at = c.before.before.before.before.before.before in
-    chunking-grow _ _ _ _ _ _ _ at.loop.i at.loop.k at.loop.count at.loop.size at.loop.invariant c.before.before.before.before.before.loop-test.true (sym (not-false _ c.before.before.before.if1.false) ∙ c.before.before.before.before.is-missing.ensures) _ c.before.before.row-size.ensures.0 c.before.before.row-size.ensures.1 (sym c.if2.false ∙ c.before.starts-next.ensures)
+    chunking_grow _ _ _ _ _ _ _ at.loop.i at.loop.k at.loop.count at.loop.size at.loop.invariant c.before.before.before.before.before.loop-test.true (sym (not-false _ c.before.before.before.if1.false) ∙ c.before.before.before.before.is-missing.ensures) _ c.before.before.row-size.ensures.0 c.before.before.row-size.ensures.1 (sym c.if2.false ∙ c.before.starts-next.ensures)
 
 same_length : tie.Need-same-length invariant_loop decreases_loop
 same_length c = c.before.before.loop.invariant.listing.same
 
 returns : tie.Need-returns invariant_loop decreases_loop
-returns c = chunking-none _ _ _ _ _ _ _ c.before.before.loop.i _ _ _ c.before.before.loop.invariant (omega arith) c.if3.true
+returns c = chunking_none _ _ _ _ _ _ _ c.before.before.loop.i _ _ _ c.before.before.loop.invariant (omega arith) c.if3.true
 
 mul_put_word_2 : tie.Need-overflow-mul-put-word-2 invariant_loop decreases_loop
 mul_put_word_2 c = search rules
@@ -94,7 +94,7 @@ same_length_2 c = search rules
 returns_2 : tie.Need-returns-2 invariant_loop decreases_loop
 returns_2 c =
     let at = c.before.before.before.before.before.before in
-    chunking-last _ _ _ _ _ _ _ at.loop.i at.loop.k at.loop.count _ at.loop.invariant _ (omega (arith, c.before.before.before.before.before.loop-test.false)) c.before.before.before.before.if3.false at.before.before.before.requires.1 c.before.before.put-word2.ensures
+    chunking_last _ _ _ _ _ _ _ at.loop.i at.loop.k at.loop.count _ at.loop.invariant _ (omega (arith, c.before.before.before.before.before.loop-test.false)) c.before.before.before.before.if3.false at.before.before.before.requires.1 c.before.before.put-word2.ensures
 
 pub write_chunks_spec : {M : Type 1} → statement M
 write_chunks_spec =

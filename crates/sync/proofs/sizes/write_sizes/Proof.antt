@@ -4,7 +4,7 @@ use mathlib.Core.Path.{sym, ◌∙◌}
 use native.Mathlib.Omega.{arith}
 use borrow.Author.Tests.{not-true, not-false}
 use Rattle.clock.specs.Vector.{entries}
-use Rattle.sync.proofs.SizeLoops.{Sizing, sizing_start, sizing-skip, sizing-room, sizing-put, sizing-grow, sizing-none, last-room, sizing-last}
+use Rattle.sync.proofs.SizeLoops.{Sizing, sizing_start, sizing_skip, sizing_room, sizing_put, sizing_grow, sizing_none, last_room, sizing_last}
 use Rattle.sync.proofs.sizes.write_sizes.Statement.{statement}
 use Rattle.sync.proofs.sizes.write_sizes.Tie as tie
 
@@ -35,7 +35,7 @@ loop_less c = search rules
 loop_again : tie.Need-loop-preserved invariant_loop decreases_loop
 loop_again c =
     let at = c.before.before.before in
-    sizing-skip _ _ _ _ _ _ _ _ _ at.loop.i _ _ _ _ at.loop.invariant c.before.before.loop-test.true (sym (not-true _ c.if1.true) ∙ c.before.is-missing.ensures)
+    sizing_skip _ _ _ _ _ _ _ _ _ at.loop.i _ _ _ _ at.loop.invariant c.before.before.loop-test.true (sym (not-true _ c.if1.true) ∙ c.before.is-missing.ensures)
 
 row_sizes_requires : tie.Need-row-sizes-requires invariant_loop decreases_loop
 row_sizes_requires c κs =
@@ -59,7 +59,7 @@ put_figures_requires c κs =
     let row = c.before.before.before.before.before in
     let at = row.before.before.before.before in
     let pre = at.before.before.before.requires in
-    sizing-room _ _ _ _ _ _ _ _ _ at.loop.i at.loop.k at.loop.count at.loop.size at.loop.bytes at.loop.invariant _ c.frame-len.ensures pre.2 row.before.before.before.loop-test.true (sym (not-false _ row.before.if1.false) ∙ row.before.before.is-missing.ensures) _ _ row.row-sizes.ensures (sym c.before.before.if2.true ∙ c.before.before.before.starts-next.ensures)
+    sizing_room _ _ _ _ _ _ _ _ _ at.loop.i at.loop.k at.loop.count at.loop.size at.loop.bytes at.loop.invariant _ c.frame-len.ensures pre.2 row.before.before.before.loop-test.true (sym (not-false _ row.before.if1.false) ∙ row.before.before.is-missing.ensures) _ _ row.row-sizes.ensures (sym c.before.before.if2.true ∙ c.before.before.before.starts-next.ensures)
 
 add_k : tie.Need-overflow-add-k invariant_loop decreases_loop
 add_k c = search rules
@@ -73,7 +73,7 @@ loop_again_2 c =
     let row = framed.before.before.before.before.before in
     let at = row.before.before.before.before in
     let pre = at.before.before.before.requires in
-    sizing-put _ _ _ _ _ _ _ _ _ at.loop.i at.loop.k at.loop.count at.loop.size at.loop.bytes at.loop.invariant _ framed.frame-len.ensures pre.2 row.before.before.before.loop-test.true (sym (not-false _ row.before.if1.false) ∙ row.before.before.is-missing.ensures) _ _ row.row-sizes.ensures (sym framed.before.before.if2.true ∙ framed.before.before.before.starts-next.ensures) _ c.before.before.put-figures.ensures
+    sizing_put _ _ _ _ _ _ _ _ _ at.loop.i at.loop.k at.loop.count at.loop.size at.loop.bytes at.loop.invariant _ framed.frame-len.ensures pre.2 row.before.before.before.loop-test.true (sym (not-false _ row.before.if1.false) ∙ row.before.before.is-missing.ensures) _ _ row.row-sizes.ensures (sym framed.before.before.if2.true ∙ framed.before.before.before.starts-next.ensures) _ c.before.before.put-figures.ensures
 
 add_count : tie.Need-overflow-add-count invariant_loop decreases_loop
 add_count c = search rules
@@ -91,7 +91,7 @@ loop_again_3 : tie.Need-loop-preserved-3 invariant_loop decreases_loop
 loop_again_3 c =
     let row = c.before.before.before.before.before in
     let at = row.before.before.before.before in
-    sizing-grow _ _ _ _ _ _ _ _ _ at.loop.i at.loop.k at.loop.count at.loop.size at.loop.bytes at.loop.invariant row.before.before.before.loop-test.true (sym (not-false _ row.before.if1.false) ∙ row.before.before.is-missing.ensures) _ _ row.row-sizes.ensures (sym c.before.before.if2.false ∙ c.before.before.before.starts-next.ensures)
+    sizing_grow _ _ _ _ _ _ _ _ _ at.loop.i at.loop.k at.loop.count at.loop.size at.loop.bytes at.loop.invariant row.before.before.before.loop-test.true (sym (not-false _ row.before.if1.false) ∙ row.before.before.is-missing.ensures) _ _ row.row-sizes.ensures (sym c.before.before.if2.false ∙ c.before.before.before.starts-next.ensures)
 
 same_length : tie.Need-same-length invariant_loop decreases_loop
 same_length c = c.before.before.loop.invariant.listing.same
@@ -99,7 +99,7 @@ same_length c = c.before.before.loop.invariant.listing.same
 returns : tie.Need-returns invariant_loop decreases_loop
 returns c =
     let at = c.before.before in
-    sizing-none _ _ _ _ _ _ _ _ _ at.loop.i _ _ _ _ at.loop.invariant (omega (arith, c.before.loop-test.false)) c.if3.true
+    sizing_none _ _ _ _ _ _ _ _ _ at.loop.i _ _ _ _ at.loop.invariant (omega (arith, c.before.loop-test.false)) c.if3.true
 
 mul_put_figures_2 : tie.Need-overflow-mul-put-figures-2 invariant_loop decreases_loop
 mul_put_figures_2 c = search rules
@@ -111,7 +111,7 @@ put_figures_requires_2 : tie.Need-put-figures-requires-2 invariant_loop decrease
 put_figures_requires_2 c κs =
     let at = c.before.before.before.before in
     let pre = at.before.before.before.requires in
-    last-room _ _ _ _ _ _ _ _ _ at.loop.i at.loop.k at.loop.count at.loop.size at.loop.bytes at.loop.invariant _ c.frame-len2.ensures pre.2 (omega (arith, c.before.before.before.loop-test.false)) c.before.before.if3.false
+    last_room _ _ _ _ _ _ _ _ _ at.loop.i at.loop.k at.loop.count at.loop.size at.loop.bytes at.loop.invariant _ c.frame-len2.ensures pre.2 (omega (arith, c.before.before.before.loop-test.false)) c.before.before.if3.false
 
 add_result : tie.Need-overflow-add-result invariant_loop decreases_loop
 add_result c = search rules
@@ -124,7 +124,7 @@ returns_2 c =
     let framed = c.before.before.before in
     let at = framed.before.before.before.before in
     let pre = at.before.before.before.requires in
-    sizing-last _ _ _ _ _ _ _ _ _ at.loop.i at.loop.k at.loop.count at.loop.size at.loop.bytes at.loop.invariant _ framed.frame-len2.ensures pre.2 (omega (arith, framed.before.before.before.loop-test.false)) framed.before.before.if3.false _ c.before.before.put-figures2.ensures
+    sizing_last _ _ _ _ _ _ _ _ _ at.loop.i at.loop.k at.loop.count at.loop.size at.loop.bytes at.loop.invariant _ framed.frame-len2.ensures pre.2 (omega (arith, framed.before.before.before.loop-test.false)) framed.before.before.if3.false _ c.before.before.put-figures2.ensures
 
 pub write_sizes_spec : {M : Type 1} → statement M
 write_sizes_spec =

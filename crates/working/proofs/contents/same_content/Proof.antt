@@ -1,5 +1,5 @@
 use Prim.Native.Nat.{◌-◌}
-use Rattle.working.proofs.ContentEquality.{not_stamp, not-deps, not-payload, as-signatures}
+use Rattle.working.proofs.ContentEquality.{not_stamp, not_deps, not_payload, as_signatures}
 use borrow.Author.Rules.{rules}
 use Rattle.working.proofs.contents.same_content.Statement.{statement}
 use Rattle.working.proofs.contents.same_content.Tie as tie
@@ -16,7 +16,7 @@ same_deps_requires c κs = search rules
 returns_2 : tie.Need-returns-2
 returns_2 c =
     let args = c.before.before.before.before.before.before.before.before.args in
-    not-deps args.a args.b _ _ _ c.before.before.before.before.before.same_stamp_lem.ensures c.before.before.before.before.if1.false _ c.before.same-deps.ensures c.if2.true
+    not_deps args.a args.b _ _ _ c.before.before.before.before.before.same_stamp_lem.ensures c.before.before.before.before.if1.false _ c.before.same-deps.ensures c.if2.true
 
 same_part_requires : tie.Need-same-part-requires
 same_part_requires c κs = search rules
@@ -25,7 +25,7 @@ returns_3 : tie.Need-returns-3
 returns_3 c =
     let at = c.before.before.before.before.before.before in
     let args = at.before.before.before.before.args in
-    not-payload args.a args.b _ _ _ at.before.same_stamp_lem.ensures at.if1.false _ c.before.before.before.same-deps.ensures c.before.before.if2.false _ c.before.same-part.ensures c.if3.true
+    not_payload args.a args.b _ _ _ at.before.same_stamp_lem.ensures at.if1.false _ c.before.before.before.same-deps.ensures c.before.before.if2.false _ c.before.same-part.ensures c.if3.true
 
 same_part_requires_2 : tie.Need-same-part-requires-2
 same_part_requires_2 c κs = search rules
@@ -34,7 +34,7 @@ returns_4 : tie.Need-returns-4
 returns_4 c =
     let at = c.before.before.before.before.before.before.before in
     let args = at.before.before.before.before.args in
-    as-signatures args.a args.b _ _ _ at.before.same_stamp_lem.ensures at.if1.false _ c.before.before.before.before.same-deps.ensures c.before.before.before.if2.false _ c.before.before.same-part.ensures c.before.if3.false _ c.same-part2.ensures
+    as_signatures args.a args.b _ _ _ at.before.same_stamp_lem.ensures at.if1.false _ c.before.before.before.before.same-deps.ensures c.before.before.before.if2.false _ c.before.before.same-part.ensures c.before.if3.false _ c.same-part2.ensures
 
 pub same_content_spec : {M : Type 1} → statement M
 same_content_spec =

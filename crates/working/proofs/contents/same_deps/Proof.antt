@@ -3,7 +3,7 @@ use Prim.Native.Nat.{ℕ, ◌-◌, ◌≤◌}
 use mathlib.Core.Path.{◌≡◌, sym, ◌∙◌}
 use native.Mathlib.Omega.{arith}
 use lib.ListN.{length, length-map}
-use Rattle.working.proofs.ContentEquality.{LeftDeps, deps_start, deps_count, deps-author, deps-number, deps_turn, deps_end}
+use Rattle.working.proofs.ContentEquality.{LeftDeps, deps_start, deps_count, deps_author, deps_number, deps_turn, deps_end}
 use Rattle.working.proofs.contents.same_deps.Statement.{statement}
 use Rattle.working.proofs.contents.same_deps.Tie as tie
 
@@ -47,7 +47,7 @@ element_copy_out_if2_2 c = search rules
 returns_2 : tie.Need-returns-2 invariant_loop decreases_loop
 returns_2 c =
     let at = c.before.before.before.before.before.before in
-    deps-author _ _ (p_authors (at)) (p_numbers (at)) (q_authors (at)) (q_numbers (at)) at.requires.0 at.requires.1 c.before.before.before.before.loop.i c.before.before.before.before.before.if1.false (search rules) c.if2.true c.before.before.before.before.loop.invariant.1
+    deps_author _ _ (p_authors (at)) (p_numbers (at)) (q_authors (at)) (q_numbers (at)) at.requires.0 at.requires.1 c.before.before.before.before.loop.i c.before.before.before.before.before.if1.false (search rules) c.if2.true c.before.before.before.before.loop.invariant.1
 
 mul_if3 : tie.Need-overflow-mul-if3 invariant_loop decreases_loop
 mul_if3 c = search rules
@@ -65,7 +65,7 @@ returns_3 : tie.Need-returns-3 invariant_loop decreases_loop
 returns_3 c =
     let at = c.before.before.before.before.before.before.before in
     let at₂ = at.before.before in
-    deps-number _ _ (p_authors (at₂)) (p_numbers (at₂)) (q_authors (at₂)) (q_numbers (at₂)) at₂.requires.0 at₂.requires.1 at.loop.i at.before.if1.false (search rules) c.before.before.before.if2.false c.if3.true at.loop.invariant.1
+    deps_number _ _ (p_authors (at₂)) (p_numbers (at₂)) (q_authors (at₂)) (q_numbers (at₂)) at₂.requires.0 at₂.requires.1 at.loop.i at.before.if1.false (search rules) c.before.before.before.if2.false c.if3.true at.loop.invariant.1
 
 add_i : tie.Need-overflow-add-i invariant_loop decreases_loop
 add_i c = search rules

@@ -1,6 +1,6 @@
 use Prim.Native.Nat.{◌*◌, ◌-◌}
 use mathlib.Core.Path.{sym, ◌∙◌}
-use Rattle.row.proofs.Operations.{read-op-row}
+use Rattle.row.proofs.Operations.{read_op_row}
 use Rattle.working.proofs.ReferenceRows.{ok_held, ok_batch, row_held, row_batch}
 use Rattle.working.proofs.Entrance.{read_row_at, read_fits, same_rows}
 use borrow.Author.Rules.{rules}
@@ -19,7 +19,7 @@ same_content_requires c κs = search rules
 returns : tie.Need-returns
 returns c =
     let at = c.before.before.before.before.before.before in
-    same_rows _ _ _ _ (read-op-row at.args.held.now (704 * at.args.k) (ok_held _ _ _ c.before.before.before.if1.true at.requires.0) _ c.before.before.read-slot.ensures.0 ∙ sym (row_held _ _ _ c.before.before.before.if1.true)) c.same-content.ensures
+    same_rows _ _ _ _ (read_op_row at.args.held.now (704 * at.args.k) (ok_held _ _ _ c.before.before.before.if1.true at.requires.0) _ c.before.before.read-slot.ensures.0 ∙ sym (row_held _ _ _ c.before.before.before.if1.true)) c.same-content.ensures
 
 read_row_requires : tie.Need-read-row-requires
 read_row_requires c κs = search rules

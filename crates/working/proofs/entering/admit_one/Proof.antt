@@ -4,7 +4,7 @@ use borrow.Author.Rules.{rules}
 use Rattle.working.proofs.ScratchColumns.{refs_of, ref_there}
 use Rattle.working.proofs.ReferenceRows.{read_of}
 use Rattle.working.proofs.FirstReference.{found_below}
-use Rattle.working.proofs.Entrance.{read_inside, read_fits, key_ref, ref_read, admit_old, admit-same, admit-other, admit-new}
+use Rattle.working.proofs.Entrance.{read_inside, read_fits, key_ref, ref_read, admit_old, admit_same, admit_other, admit_new}
 use Rattle.working.proofs.entering.admit_one.Statement.{statement}
 use Rattle.working.proofs.entering.admit_one.Tie as tie
 
@@ -49,7 +49,7 @@ returns_2 c =
     let at = c.before.before.before.before.before.before.before in
     let at₂ = at.before.before.before.before.before.before.before in
     let at₃ = at₂.before.before.before.before.before.before.before in
-    admit-new _ _ _ _ _ _ _ _ _ _ (read_of _ at₃.requires.1).2 _ at₂.batch-key.ensures _ at.before.before.before.before.before.clock-get.ensures at.before.before.before.before.if1.false (sym at.enum_told.given.1 ∙ at.before.before.seek.ensures _ _ _ at₃.requires.4) (c.before.before.before.before.enter.ensures _ _ (record { refs = at₃.requires.0.refs; keyed = at₃.requires.4; ok = ref_read _ _ _ at₃.requires.1; own = key_ref _ _ _ _ at₂.batch-key.ensures }))
+    admit_new _ _ _ _ _ _ _ _ _ _ (read_of _ at₃.requires.1).2 _ at₂.batch-key.ensures _ at.before.before.before.before.before.clock-get.ensures at.before.before.before.before.if1.false (sym at.enum_told.given.1 ∙ at.before.before.seek.ensures _ _ _ at₃.requires.4) (c.before.before.before.before.enter.ensures _ _ (record { refs = at₃.requires.0.refs; keyed = at₃.requires.4; ok = ref_read _ _ _ at₃.requires.1; own = key_ref _ _ _ _ at₂.batch-key.ensures }))
 
 mul_get_word : tie.Need-overflow-mul-get-word
 mul_get_word c =
@@ -81,7 +81,7 @@ returns_3 c =
     let at = c.before.before.before.before.before.before in
     let at₂ = at.before.before.before.before.before.before.before in
     let at₃ = at₂.before.before.before.before.before.before.before in
-    admit-same _ _ _ _ _ _ _ _ _ _ (read_of _ at₃.requires.1).2 _ at₂.batch-key.ensures _ at.before.before.before.before.before.clock-get.ensures at.before.before.before.before.if1.false _ c.before.before.read_row_lem.ensures _ _ (sym at.j.given.1 ∙ at.before.before.seek.ensures _ _ _ at₃.requires.4) c.before.before.before.get-word.ensures _ c.before.same-ref.ensures c.if2.true refl at₃.requires.4
+    admit_same _ _ _ _ _ _ _ _ _ _ (read_of _ at₃.requires.1).2 _ at₂.batch-key.ensures _ at.before.before.before.before.before.clock-get.ensures at.before.before.before.before.if1.false _ c.before.before.read_row_lem.ensures _ _ (sym at.j.given.1 ∙ at.before.before.seek.ensures _ _ _ at₃.requires.4) c.before.before.before.get-word.ensures _ c.before.same-ref.ensures c.if2.true refl at₃.requires.4
 
 same_length_5 : tie.Need-same-length-5
 same_length_5 c = search rules
@@ -94,7 +94,7 @@ returns_4 c =
     let at = c.before.before.before.before.before.before in
     let at₂ = at.before.before.before.before.before.before.before in
     let at₃ = at₂.before.before.before.before.before.before.before in
-    admit-other _ _ _ _ _ _ _ _ _ _ (read_of _ at₃.requires.1).2 _ at₂.batch-key.ensures _ at.before.before.before.before.before.clock-get.ensures at.before.before.before.before.if1.false _ c.before.before.read_row_lem.ensures _ _ (sym at.j.given.1 ∙ at.before.before.seek.ensures _ _ _ at₃.requires.4) c.before.before.before.get-word.ensures _ c.before.same-ref.ensures c.if2.false
+    admit_other _ _ _ _ _ _ _ _ _ _ (read_of _ at₃.requires.1).2 _ at₂.batch-key.ensures _ at.before.before.before.before.before.clock-get.ensures at.before.before.before.before.if1.false _ c.before.before.read_row_lem.ensures _ _ (sym at.j.given.1 ∙ at.before.before.seek.ensures _ _ _ at₃.requires.4) c.before.before.before.get-word.ensures _ c.before.same-ref.ensures c.if2.false
 
 pub admit_one_spec : {M : Type 1} → statement M
 admit_one_spec =

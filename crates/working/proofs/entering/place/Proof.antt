@@ -6,7 +6,7 @@ use native.Mathlib.Omega.{arith}
 use Rattle.working.specs.Inside.Keys.{Keyed}
 use Rattle.working.specs.Inside.Looks.{before_ref}
 use Rattle.working.proofs.Entrance.{found_place, none_place}
-use Rattle.working.proofs.FirstReference.{LeftFirst, first_start, first-here, first-turn, first_end}
+use Rattle.working.proofs.FirstReference.{LeftFirst, first_start, first_here, first_turn, first_end}
 use Rattle.working.proofs.entering.place.Statement.{statement}
 use Rattle.working.proofs.entering.place.Tie as tie
 
@@ -26,7 +26,7 @@ goes_before_requires : tie.Need-goes-before-requires invariant_loop decreases_lo
 goes_before_requires c κs = search rules
 
 returns : tie.Need-returns invariant_loop decreases_loop
-returns c = (λ held batch s g. found_place _ _ _ (first-here _ _ _ _ _ _ (search rules) refl (c.before.goes_before.ensures held batch _ (g.keys _ (search rules))) c.if1.true (c.before.before.before.loop.invariant.1 held batch s g)), search rules)
+returns c = (λ held batch s g. found_place _ _ _ (first_here _ _ _ _ _ _ (search rules) refl (c.before.goes_before.ensures held batch _ (g.keys _ (search rules))) c.if1.true (c.before.before.before.loop.invariant.1 held batch s g)), search rules)
 
 add_i : tie.Need-overflow-add-i invariant_loop decreases_loop
 add_i c = search rules
@@ -35,7 +35,7 @@ loop_less : tie.Need-loop-smaller invariant_loop decreases_loop
 loop_less c = search rules
 
 loop_again : tie.Need-loop-preserved invariant_loop decreases_loop
-loop_again c = (search rules, λ held batch s g. first-turn _ _ _ _ _ _ (search rules) refl (c.before.goes_before.ensures held batch _ (g.keys _ (search rules))) c.if1.false (c.before.before.before.loop.invariant.1 held batch s g))
+loop_again c = (search rules, λ held batch s g. first_turn _ _ _ _ _ _ (search rules) refl (c.before.goes_before.ensures held batch _ (g.keys _ (search rules))) c.if1.false (c.before.before.before.loop.invariant.1 held batch s g))
 
 returns_2 : tie.Need-returns-2 invariant_loop decreases_loop
 returns_2 c = (λ held batch s g. none_place _ _ (first_end _ _ _ c.before.loop.i (omega arith) (c.before.loop.invariant.1 held batch s g)), search rules)

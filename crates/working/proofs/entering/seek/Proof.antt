@@ -5,7 +5,7 @@ use mathlib.Core.List.{List}
 use native.Mathlib.Omega.{arith}
 use Rattle.working.specs.Inside.Keys.{Keyed}
 use Rattle.working.specs.Inside.Looks.{id_ref}
-use Rattle.working.proofs.FirstReference.{LeftFirst, first_start, first-here, first-turn, first_end}
+use Rattle.working.proofs.FirstReference.{LeftFirst, first_start, first_here, first_turn, first_end}
 use Rattle.working.proofs.entering.seek.Statement.{statement}
 use Rattle.working.proofs.entering.seek.Tie as tie
 
@@ -25,7 +25,7 @@ same_id_requires : tie.Need-same-id-requires invariant_loop decreases_loop
 same_id_requires c κs = search rules
 
 returns : tie.Need-returns invariant_loop decreases_loop
-returns c = λ held batch s g. first-here _ _ _ _ _ _ (search rules) refl (c.before.same_id.ensures held batch _ (g.keys _ (search rules))) c.if1.true (c.before.before.before.loop.invariant.1 held batch s g)
+returns c = λ held batch s g. first_here _ _ _ _ _ _ (search rules) refl (c.before.same_id.ensures held batch _ (g.keys _ (search rules))) c.if1.true (c.before.before.before.loop.invariant.1 held batch s g)
 
 add_i : tie.Need-overflow-add-i invariant_loop decreases_loop
 add_i c = search rules
@@ -34,7 +34,7 @@ loop_less : tie.Need-loop-smaller invariant_loop decreases_loop
 loop_less c = search rules
 
 loop_again : tie.Need-loop-preserved invariant_loop decreases_loop
-loop_again c = (search rules, λ held batch s g. first-turn _ _ _ _ _ _ (search rules) refl (c.before.same_id.ensures held batch _ (g.keys _ (search rules))) c.if1.false (c.before.before.before.loop.invariant.1 held batch s g))
+loop_again c = (search rules, λ held batch s g. first_turn _ _ _ _ _ _ (search rules) refl (c.before.same_id.ensures held batch _ (g.keys _ (search rules))) c.if1.false (c.before.before.before.loop.invariant.1 held batch s g))
 
 returns_2 : tie.Need-returns-2 invariant_loop decreases_loop
 returns_2 c = λ held batch s g. first_end _ _ _ _ (omega arith) (c.before.loop.invariant.1 held batch s g)

@@ -1,6 +1,6 @@
 use Prim.Native.Nat.{◌-◌}
 use mathlib.Core.Path.{refl, sym, ◌∙◌, ap}
-use Rattle.working.proofs.ReferenceRows.{no_head_lem, head-key}
+use Rattle.working.proofs.ReferenceRows.{no_head_lem, head_key}
 use borrow.Author.Rules.{rules}
 use Rattle.working.proofs.looks.batch_key.Statement.{statement}
 use Rattle.working.proofs.looks.batch_key.Tie as tie
@@ -22,7 +22,7 @@ returns : tie.Need-returns
 returns c = absurd (no_head_lem _ _ _ c.before.before.before.before.before.requires (sym c.before.before.before.read_head.ensures ∙ ap head_of c.before.enum_told.given.1))
 
 returns_2 : tie.Need-returns-2
-returns_2 c = head-key _ _ _ _ c.before.before.before.before.before.requires (sym c.before.before.before.read_head.ensures ∙ ap head_of c.before.timestamp.given.1) _ refl refl refl
+returns_2 c = head_key _ _ _ _ c.before.before.before.before.before.requires (sym c.before.before.before.read_head.ensures ∙ ap head_of c.before.timestamp.given.1) _ refl refl refl
 
 pub batch_key_spec : {M : Type 1} → statement M
 batch_key_spec =

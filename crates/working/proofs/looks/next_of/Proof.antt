@@ -12,7 +12,7 @@ is_next_requires : tie.Need-is-next-requires
 is_next_requires c κs = search rules
 
 returns : tie.Need-returns
-returns c = c.is-next.ensures ∙ ap (λ (h : ℕ). eqb c.before.before.before.before.args.seq (suc h)) c.before.clock-get.ensures
+returns c = c.is_next.ensures ∙ ap (λ (h : ℕ). eqb c.before.before.before.before.args.seq (suc h)) c.before.clock-get.ensures
 
 pub next_of_spec : {M : Type 1} → statement M
 next_of_spec = tie.close (tie.spec clock_get_requires is_next_requires returns)

@@ -1,6 +1,6 @@
 use Prim.Native.Nat.{◌-◌}
 use mathlib.Core.Path.{sym, ◌∙◌, ap}
-use Rattle.working.proofs.ReferenceRows.{no_head_lem, head-fields, deps-field, ready_not, ready_met}
+use Rattle.working.proofs.ReferenceRows.{no_head_lem, head_fields, deps_field, ready_not, ready_met}
 use borrow.Author.Rules.{rules}
 use Rattle.working.proofs.looks.ready_batch.Statement.{statement}
 use Rattle.working.proofs.looks.ready_batch.Tie as tie
@@ -24,7 +24,7 @@ reached_requires c κs = search rules
 returns_2 : tie.Need-returns-2
 returns_2 c =
     let at = c.before.before.before.before.before.before.before.before.before in
-    ready_not _ _ _ _ _ (sym (head-fields _ _ _ _ at.requires.0 (sym c.before.before.before.before.before.read_head.ensures ∙ ap head_of c.before.before.before.actor.given.1)).1) (sym (head-fields _ _ _ _ at.requires.0 (sym c.before.before.before.before.before.read_head.ensures ∙ ap head_of c.before.before.before.actor.given.1)).2) c.before.reached.ensures c.if1.true
+    ready_not _ _ _ _ _ (sym (head_fields _ _ _ _ at.requires.0 (sym c.before.before.before.before.before.read_head.ensures ∙ ap head_of c.before.before.before.actor.given.1)).1) (sym (head_fields _ _ _ _ at.requires.0 (sym c.before.before.before.before.before.read_head.ensures ∙ ap head_of c.before.before.before.actor.given.1)).2) c.before.reached.ensures c.if1.true
 
 read_deps_requires : tie.Need-read-deps-requires
 read_deps_requires c κs = search rules
@@ -37,7 +37,7 @@ returns_3 c =
     let at = c.before.before.before.before.before.before in
     let at₂ = at.before.before in
     let at₃ = at₂.before.before.before.before in
-    ready_met _ _ _ _ _ (sym (head-fields _ _ _ _ at₃.requires.0 (sym at₂.read_head.ensures ∙ ap head_of at.actor.given.1)).1) (sym (head-fields _ _ _ _ at₃.requires.0 (sym at₂.read_head.ensures ∙ ap head_of at.actor.given.1)).2) c.before.before.before.before.reached.ensures _ _ (deps-field _ _ _ _ at₃.requires.0 (sym at₂.read_head.ensures ∙ ap head_of at.actor.given.1) c.before.before.read-deps.result.reading _ c.before.before.read-deps.ensures.is) c.before.before.before.if1.false c.met-deps.ensures
+    ready_met _ _ _ _ _ (sym (head_fields _ _ _ _ at₃.requires.0 (sym at₂.read_head.ensures ∙ ap head_of at.actor.given.1)).1) (sym (head_fields _ _ _ _ at₃.requires.0 (sym at₂.read_head.ensures ∙ ap head_of at.actor.given.1)).2) c.before.before.before.before.reached.ensures _ _ (deps_field _ _ _ _ at₃.requires.0 (sym at₂.read_head.ensures ∙ ap head_of at.actor.given.1) c.before.before.read-deps.result.reading _ c.before.before.read-deps.ensures.is) c.before.before.before.if1.false c.met-deps.ensures
 
 pub ready_batch_spec : {M : Type 1} → statement M
 ready_batch_spec =

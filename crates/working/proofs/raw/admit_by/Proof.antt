@@ -2,7 +2,7 @@ use borrow.Author.Rules.{rules}
 use Prim.Native.Nat.{◌-◌}
 use native.Mathlib.Omega.{arith}
 use Rattle.working.specs.Inside.DrainClock.{ticks}
-use Rattle.working.proofs.AdmissionLoop.{Enters, enters_start, enters_end, begun, begun-needs, enters-duplicate, enters-entered, enters-conflict, answered}
+use Rattle.working.proofs.AdmissionLoop.{Enters, enters_start, enters_end, begun, begun_needs, enters_duplicate, enters_entered, enters_conflict, answered}
 use Rattle.working.proofs.raw.admit_by.Statement.{statement}
 use Rattle.working.proofs.raw.admit_by.Tie as tie
 
@@ -26,7 +26,7 @@ shared_slice_read_at c = omega (arith, c.before.before.before.before.before.befo
 admit_one_requires : tie.Need-admit-one-requires invariant_loop decreases_loop
 admit_one_requires c κs =
     let at = c.before.before.before.before.before.before.before.before.before.before.before.before in
-    ((begun-needs c.before.before.before.before.loop.invariant c.before.before.before.loop-test.true at.requires.1).0, (begun-needs c.before.before.before.before.loop.invariant c.before.before.before.loop-test.true at.requires.1).1, at.requires.5, (begun-needs c.before.before.before.before.loop.invariant c.before.before.before.loop-test.true at.requires.1).2, (begun c.before.before.before.before.loop.invariant at.requires.1).keyed, (begun-needs c.before.before.before.before.loop.invariant c.before.before.before.loop-test.true at.requires.1).3)
+    ((begun_needs c.before.before.before.before.loop.invariant c.before.before.before.loop-test.true at.requires.1).0, (begun_needs c.before.before.before.before.loop.invariant c.before.before.before.loop-test.true at.requires.1).1, at.requires.5, (begun_needs c.before.before.before.before.loop.invariant c.before.before.before.loop-test.true at.requires.1).2, (begun c.before.before.before.before.loop.invariant at.requires.1).keyed, (begun_needs c.before.before.before.before.loop.invariant c.before.before.before.loop-test.true at.requires.1).3)
 
 enum_told : tie.Need-enum-told invariant_loop decreases_loop
 enum_told c = search rules
@@ -48,7 +48,7 @@ loop_less c = omega (arith, c.before.before.before.before.before.before.before.b
 loop_again : tie.Need-loop-preserved invariant_loop decreases_loop
 loop_again c =
     let at = c.before.before.before.before.before.before in
-    enters-duplicate at.before.before.before.before.before.loop.invariant at.before.before.before.before.loop-test.true _ _ (search rules) (answered c.enum_told.given.1 at.admit-one.ensures)
+    enters_duplicate at.before.before.before.before.before.loop.invariant at.before.before.before.before.loop-test.true _ _ (search rules) (answered c.enum_told.given.1 at.admit-one.ensures)
 
 enum_known_answer : tie.Need-enum-known-answer invariant_loop decreases_loop
 enum_known_answer c = search rules
@@ -66,7 +66,7 @@ same_length_2 c =
 returns : tie.Need-returns invariant_loop decreases_loop
 returns c =
     let at = c.before.before.before.before.before.before.before in
-    enters-conflict at.before.before.before.before.before.loop.invariant at.before.before.before.before.loop-test.true _ _ _ _ (answered c.before.answer.given.1 at.admit-one.ensures)
+    enters_conflict at.before.before.before.before.before.loop.invariant at.before.before.before.before.loop-test.true _ _ _ _ (answered c.before.answer.given.1 at.admit-one.ensures)
 
 enum_told_2 : tie.Need-enum-told-2 invariant_loop decreases_loop
 enum_told_2 c = search rules
@@ -88,7 +88,7 @@ loop_less_2 c = omega (arith, c.before.before.before.before.before.before.before
 loop_again_2 : tie.Need-loop-preserved-2 invariant_loop decreases_loop
 loop_again_2 c =
     let at = c.before.before.before.before.before.before in
-    enters-entered at.before.before.before.before.before.loop.invariant at.before.before.before.before.loop-test.true _ _ (search rules) (search rules) (answered c.enum-told2.given.1 at.admit-one.ensures)
+    enters_entered at.before.before.before.before.before.loop.invariant at.before.before.before.before.loop-test.true _ _ (search rules) (search rules) (answered c.enum-told2.given.1 at.admit-one.ensures)
 
 same_length_3 : tie.Need-same-length-3 invariant_loop decreases_loop
 same_length_3 c = (begun c.before.loop.invariant c.before.before.before.before.before.before.before.before.before.requires.1).same

@@ -2,7 +2,7 @@ use borrow.Author.Rules.{rules}
 use Prim.Native.Nat.{◌-◌}
 use mathlib.Core.Path.{sym, ◌∙◌}
 use native.Mathlib.Omega.{arith}
-use Rattle.working.proofs.DrainLoop.{Going, going_start, going_working, going_end, turn, word_room, found-ref, take-needs, push_room, put-needs, going_drop, going-log}
+use Rattle.working.proofs.DrainLoop.{Going, going_start, going_working, going_end, turn, word_room, found_ref, take_needs, push_room, put_needs, going_drop, going_log}
 use Rattle.working.proofs.raw.drain_by.Statement.{statement}
 use Rattle.working.proofs.raw.drain_by.Tie as tie
 
@@ -43,12 +43,12 @@ get_word_requires : tie.Need-get-word-requires invariant_loop decreases_loop
 get_word_requires c κs = word_room c.before.before.before.before.before.before.before.before.loop.invariant _ (sym c.before.before.j.given.1 ∙ c.before.before.before.before.first-ready.ensures)
 
 load_key_requires : tie.Need-load-key-requires invariant_loop decreases_loop
-load_key_requires c κs = found-ref c.before.before.before.before.before.before.before.before.before.loop.invariant _ (sym c.before.before.before.j.given.1 ∙ c.before.before.before.before.before.first-ready.ensures) _ c.get-word.ensures
+load_key_requires c κs = found_ref c.before.before.before.before.before.before.before.before.before.loop.invariant _ (sym c.before.before.before.j.given.1 ∙ c.before.before.before.before.before.first-ready.ensures) _ c.get-word.ensures
 
 take_entry_requires : tie.Need-take-entry-requires invariant_loop decreases_loop
 take_entry_requires c κs =
     let at = c.before.before.before.before.before.before.before in
-    take-needs at.before.before.before.before.loop.invariant _ (sym c.before.before.before.before.before.j.given.1 ∙ at.first-ready.ensures)
+    take_needs at.before.before.before.before.loop.invariant _ (sym c.before.before.before.before.before.j.given.1 ∙ at.first-ready.ensures)
 
 sub_left : tie.Need-overflow-sub-left invariant_loop decreases_loop
 sub_left c =
@@ -75,7 +75,7 @@ add_logged c =
 clock_put_requires : tie.Need-clock-put-requires invariant_loop decreases_loop
 clock_put_requires c κs =
     let at = c.before.before.before.before.before.before.before.before.before.before.before.before.before.before.before.before.before.before.before in
-    put-needs at.before.before.before.before.before.before.loop.invariant _ (sym at.j.given.1 ∙ at.before.before.first-ready.ensures)
+    put_needs at.before.before.before.before.before.before.loop.invariant _ (sym at.j.given.1 ∙ at.before.before.first-ready.ensures)
 
 loop_less : tie.Need-loop-smaller invariant_loop decreases_loop
 loop_less c =
@@ -89,7 +89,7 @@ loop_again c =
     let at = c.before.before.before.before.before.before.before.before.before in
     let at₂ = at.before.before.before.before.before.before.before.before.before in
     let at₃ = at₂.before.before.before.before.before.before in
-    going-log at₃.before.before.before.before.before.before.loop.invariant _ _ _ _ _ (sym at₃.j.given.1 ∙ at₃.before.before.first-ready.ensures) at₂.before.before.before.get-word.ensures at₂.before.before.load-key.ensures at₂.take-entry.ensures at.before.before.before.next_of.ensures _ _ _ _ at.before.before.if1.true (search rules) (search rules) (search rules) at.push-logged.ensures c.before.before.before.before.clock-put.ensures
+    going_log at₃.before.before.before.before.before.before.loop.invariant _ _ _ _ _ (sym at₃.j.given.1 ∙ at₃.before.before.first-ready.ensures) at₂.before.before.before.get-word.ensures at₂.before.before.load-key.ensures at₂.take-entry.ensures at.before.before.before.next_of.ensures _ _ _ _ at.before.before.if1.true (search rules) (search rules) (search rules) at.push-logged.ensures c.before.before.before.before.clock_put.ensures
 
 add_dropped : tie.Need-overflow-add-dropped invariant_loop decreases_loop
 add_dropped c =

@@ -4,7 +4,7 @@ use mathlib.Core.Path.{◌≡◌}
 use native.Mathlib.Omega.{arith}
 use lib.ListN.{length}
 use Rattle.row.proofs.Operations.{in_area}
-use Rattle.working.proofs.AdmissionLoop.{Lasting, lasting_start, lasting_end, lasting-past, lasting-kept}
+use Rattle.working.proofs.AdmissionLoop.{Lasting, lasting_start, lasting_end, lasting_past, lasting_kept}
 use Rattle.working.proofs.raw.unexpired.Statement.{statement}
 use Rattle.working.proofs.raw.unexpired.Tie as tie
 
@@ -33,7 +33,7 @@ loop_less : tie.Need-loop-smaller invariant_loop decreases_loop
 loop_less c = search rules
 
 loop_again : tie.Need-loop-preserved invariant_loop decreases_loop
-loop_again c = (search rules, lasting-past c.before.before.before.loop.invariant.1 (search rules) _ c.before.get-word.ensures c.if1.true)
+loop_again c = (search rules, lasting_past c.before.before.before.loop.invariant.1 (search rules) _ c.before.get-word.ensures c.if1.true)
 
 mul_put_ref : tie.Need-overflow-mul-put-ref invariant_loop decreases_loop
 mul_put_ref c = omega arith
@@ -53,7 +53,7 @@ loop_less_2 c = search rules
 loop_again_2 : tie.Need-loop-preserved-2 invariant_loop decreases_loop
 loop_again_2 c =
     let at = c.before.before.before.before.before.before.before in
-    (search rules, lasting-kept at.loop.invariant.1 (search rules) _ c.before.before.before.before.before.get-word.ensures _ c.before.before.put-ref.ensures c.before.before.before.before.if1.false (omega arith) (at.before.before.before.requires.1 at.loop.i (omega arith)))
+    (search rules, lasting_kept at.loop.invariant.1 (search rules) _ c.before.before.before.before.before.get-word.ensures _ c.before.before.put-ref.ensures c.before.before.before.before.if1.false (omega arith) (at.before.before.before.requires.1 at.loop.i (omega arith)))
 
 same_length : tie.Need-same-length invariant_loop decreases_loop
 same_length c = search rules

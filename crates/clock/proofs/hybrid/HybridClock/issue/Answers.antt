@@ -1,0 +1,5 @@
+use borrow.Author.Rules.{rules}
+use Rattle.clock.proofs.hybrid.HybridClock.issue.Goals as goal
+
+pub returns : goal.returns
+returns c = rw c.moved-clock.ensures

@@ -1,0 +1,16 @@
+use borrow.Author.Rules.{rules}
+use Prim.Native.Nat.{ℕ, ◌+◌, ◌*◌, ◌-◌, ◌≤◌, ◌<◌}
+use native.Mathlib.Omega.{arith}
+use mathlib.Core.Path.{◌≡◌, refl}
+use lib.ListN.{length, get_or, length-set}
+use Rattle.words.specs.Be.{get64}
+use Rattle.words.proofs.Puts.{fill_turn}
+use Rattle.clock.proofs.ClockArea.{column_is, word_moved}
+use Rattle.clock.specs.Area.{clock_at}
+use Rattle.clock.proofs.raw.load_clock.Given as goal
+
+abbrev pub invariant-loop-i : goal.invariant-loop-i
+invariant-loop-i l = (l.i ≤ 32) × (length l.authors ≡ 32) × (length l.numbers ≡ 32) × ((k : ℕ) → k < l.i → get_or l.authors k 0 ≡ get64 l.s (l.at + 8 + 16 * k)) × ((k : ℕ) → k < l.i → get_or l.numbers k 0 ≡ get64 l.s (l.at + 16 + 16 * k))
+
+abbrev pub decreases-loop-i : goal.decreases-loop-i
+decreases-loop-i l = 32 - l.i

@@ -1,0 +1,8 @@
+use borrow.Author.Tests.{eq-eqb, ne_eqb}
+use Rattle.codec.proofs.is_padding.Goals as goal
+
+pub returns-then-byte-eq0 : goal.returns-then-byte-eq0
+returns-then-byte-eq0 c = rw (eq-eqb _ 0 c.if-byte-eq0.true)
+
+pub returns-else-byte-eq0 : goal.returns-else-byte-eq0
+returns-else-byte-eq0 c = rw (ne_eqb _ 0 c.if-byte-eq0.false)
