@@ -8,9 +8,3 @@ pub mod LastByte
 pub mod OneSpelling
 pub mod LongerInput
 pub mod ReadParts
-pub mod ReaderParts
-pub mod WalkReaderVarint
-pub mod WalkReaderFinish
-pub mod LentReader
-pub mod WalkVarint
-pub mod WalkFinish

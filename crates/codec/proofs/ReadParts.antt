@@ -80,6 +80,9 @@ any_end (got v x) (got b y) (got g z) (finished.Refused r) m n = refl
 abbrev start : Bor (List ℕ) → Reader
 start s = record { buf = s; pos = 0 }
 
+pub starts : (s : Bor (List ℕ)) (d : Reader) → d.buf ≡ s → d.pos ≡ 0 → d ≡ start s
+starts s d p q = λ i. record { buf = p i; pos = q i }
+
 abbrev after_sender : Reader → Reader
 after_sender d = moved d (read_by get_varint d)
 

@@ -21,7 +21,7 @@ returns-then-part-gt1 c = within_refused _ _ _ (big c.loop-i.invariant (search r
 pub with_group-value-requires : goal.with_group-value-requires
 with_group-value-requires c =
     let going = c.loop-i.invariant in
-    (search rules, going.below, room going _ (omega arith) (search rules) (λ e. ⊎_elim (λ w. omega (arith, ltb-false)) (λ w. omega arith) c.else-shift-eq63.branch))
+    (search rules, going.below, room going _ (omega arith) (search rules) (λ e. ⊎_elim (λ w. omega (arith, ltb-false)) (λ w. omega arith) c.else-shift-eq63.either))
 
 pub returns-then-value-most : goal.returns-then-value-most
 returns-then-value-most c =
