@@ -18,7 +18,7 @@ use Rattle.row.specs.Rows.{HeldRow}
 use Rattle.row.specs.Slots.{slot_at, encode_held, encode_slots}
 use Rattle.row.specs.Reading.{read_row}
 use Rattle.row.proofs.CanonicalSlot.{slot_bytes}
-use Rattle.log.specs.Areas.{held_bytes}
+use Rattle.replicated_log.specs.Areas.{held_bytes}
 use Rattle.working.specs.Inside.References.{is_read, arrived_by, ref_ok, work_row, work_rows}
 use Rattle.working.specs.Inside.Scratch.{Working}
 use Rattle.working.proofs.ScratchColumns.{refs_of, ref_there}

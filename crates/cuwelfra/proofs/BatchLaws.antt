@@ -6,7 +6,7 @@ use Rattle.error.specs.declared.Told.{Told}
 use Rattle.error.specs.Answer.{Answer, told_by, ends}
 use Rattle.clock.specs.declared.stamp.Timestamp.{Timestamp}
 use Rattle.clock.specs.declared.hybrid.HybridClock.{HybridClock}
-use Rattle.log.specs.Areas.{Areas}
+use Rattle.replicated_log.specs.Areas.{Areas}
 use Rattle.merging.specs.Batch.{Limits}
 use Rattle.merging.specs.Calls.{BatchCall, Lent, set_floor_call}
 use Rattle.merging.specs.Delta.{delta_call}

@@ -22,14 +22,14 @@ use Rattle.cuwelfra.specs.Exports.{exported, written_back}
 use Rattle.clock.specs.declared.vector.NumberAnswer.{NumberAnswer}
 use Rattle.clock.specs.declared.vector.NumberAnswer.TheVariants as number
 use Rattle.clock.specs.Vector.{entries, number_answer}
-use Rattle.log.specs.Areas.{Areas, read_store}
-use Rattle.log.specs.Store.{Store}
+use Rattle.replicated_log.specs.Areas.{Areas, read_store}
+use Rattle.replicated_log.specs.Store.{Store}
 use Rattle.peer.specs.Peers.{peer_sound, pending_ops, pending_ops_call}
 use Rattle.peer.specs.Area.{peer_at}
 use Rattle.cuwelfra.specs.declared.vector.ClockTold.{ClockTold}
 use Rattle.cuwelfra.specs.Vectors.{count_told}
 use Rattle.cuwelfra.specs.Peers.{lent_peer, long_peer, new_peer_area, pending_ops_area}
-use Rattle.log.specs.Calls.{check_call}
+use Rattle.replicated_log.specs.Calls.{check_call}
 
 -- a changed record is written back, a refused one is left
 pub peer_done : (s t : List ℕ) (r : PeerAnswer) (told : Told) → r.outcome ≡ outcome.Done → t ≡ put_at s 0 (peer_bytes r.peer) → told ≡ accepted

@@ -16,13 +16,13 @@ use Rattle.error.specs.Numbers.{told_of}
 use Rattle.error.specs.Answer.{Answer, done, refused, accepted, told_by, nothing, ends}
 use Rattle.clock.specs.declared.vector.Outcome.TheVariants as outcome
 use Rattle.clock.specs.Area.{clock_bytes}
-use Rattle.log.specs.declared.ClockAnswer.{ClockAnswer}
-use Rattle.log.specs.declared.Place.{Place}
-use Rattle.log.specs.declared.Place.TheVariants as place
-use Rattle.log.specs.Areas.{Areas}
-use Rattle.log.specs.Calls.{Found, payload_at}
-use Rattle.log.specs.Answers.{ClockIs, found_of}
-use Rattle.log.specs.Calls.{compact_call}
+use Rattle.replicated_log.specs.declared.ClockAnswer.{ClockAnswer}
+use Rattle.replicated_log.specs.declared.Place.{Place}
+use Rattle.replicated_log.specs.declared.Place.TheVariants as place
+use Rattle.replicated_log.specs.Areas.{Areas}
+use Rattle.replicated_log.specs.Calls.{Found, payload_at}
+use Rattle.replicated_log.specs.Answers.{ClockIs, found_of}
+use Rattle.replicated_log.specs.Calls.{compact_call}
 use Rattle.clock.specs.declared.stamp.Timestamp.{Timestamp}
 use Rattle.clock.specs.declared.vector.NumberAnswer.{NumberAnswer}
 use Rattle.clock.specs.Vector.{number_answer}

@@ -8,13 +8,13 @@ use Rattle.words.specs.Areas.{put_at}
 use Rattle.error.specs.declared.Refusal.TheVariants.{ShortArea, UnsoundStore}
 use Rattle.error.specs.Answer.{Answer, done, refused, and_then, unless, nothing, Ends, ends}
 use Rattle.clock.specs.Area.{clock_at}
-use Rattle.log.specs.Areas.{Areas}
+use Rattle.replicated_log.specs.Areas.{Areas}
 use Rattle.peer.specs.declared.Peer.{Peer}
 use Rattle.peer.specs.Peers.{new_peer, started_call, lost_call, absorb_call, replace_call, record_ping_call, take_pong_call, rebase_call, pending_ops_call}
 use Rattle.peer.specs.Area.{peer_at, peer_bytes, state_ok}
 use Rattle.cuwelfra.specs.Exports.{written_back}
 use Rattle.cuwelfra.specs.Vectors.{long}
-use Rattle.log.specs.Calls.{check_call}
+use Rattle.replicated_log.specs.Calls.{check_call}
 
 -- the area has room for a peer
 abbrev pub long_peer : Area → Bool

@@ -11,9 +11,9 @@ use Rattle.clock.specs.Area.{clock_bytes}
 use Rattle.row.specs.Rows.{Row}
 use Rattle.row.specs.Reading.{BatchRow}
 use Rattle.row.specs.Calls.{write_op, written_by, read_op, slot_by}
-use Rattle.log.specs.Store.{MaybeStamp}
-use Rattle.log.specs.Areas.{Areas}
-use Rattle.log.specs.Calls.{Found, logged, held, absent, payload_at}
+use Rattle.replicated_log.specs.Store.{MaybeStamp}
+use Rattle.replicated_log.specs.Areas.{Areas}
+use Rattle.replicated_log.specs.Calls.{Found, logged, held, absent, payload_at}
 use Rattle.cuwelfra.specs.Vectors.{long}
 use Rattle.cuwelfra.specs.declared.store.StampTold.{StampTold}
 use Rattle.cuwelfra.specs.declared.store.LookupTold.{LookupTold}

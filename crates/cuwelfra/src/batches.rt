@@ -1,7 +1,7 @@
 // The batch call and the floor: crate merge.
 ghost use Rattle.std.specs.Prelude.{◌≡◌};
 ghost use Rattle.error.specs.Answer.{told_by};
-ghost use Rattle.log.specs.Areas.{areas};
+ghost use Rattle.replicated_log.specs.Areas.{areas};
 ghost use Rattle.merging.specs.Calls.{Lent, set_floor_call};
 ghost use Rattle.merging.specs.Delta.{delta_call};
 ghost use Rattle.merge.specs.Reports.{joined_of};

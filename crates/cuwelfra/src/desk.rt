@@ -3,7 +3,7 @@ ghost use Rattle.std.specs.Prelude.{◌≡◌};
 ghost use Rattle.error.specs.Answer.{Answer, told_by};
 ghost use Rattle.clock.specs.declared.hybrid.HybridClock.{HybridClock};
 ghost use Rattle.row.specs.Rows.{Row};
-ghost use Rattle.log.specs.Areas.{areas};
+ghost use Rattle.replicated_log.specs.Areas.{areas};
 ghost use Rattle.merging.specs.Desk.{prepare_call, seal_call};
 ghost use Rattle.engine.specs.Answers.{prepared_by};
 ghost use Rattle.cuwelfra.specs.Exports.{exported};

@@ -1,6 +1,6 @@
 // The cutoff, the delta, its chunks and what they send: crates gc and sync.
 ghost use Rattle.std.specs.Prelude.{◌≡◌};
-ghost use Rattle.log.specs.Areas.{areas};
+ghost use Rattle.replicated_log.specs.Areas.{areas};
 ghost use Rattle.gc.specs.Cutoff.{cutoff_call};
 ghost use Rattle.sync.specs.Delta.{delta_call, chunk_call};
 ghost use Rattle.sync.specs.Sizes.{sizes_call};

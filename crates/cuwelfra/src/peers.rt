@@ -3,7 +3,7 @@ ghost use Rattle.std.specs.Prelude.{◌≡◌, ◌≤◌, length};
 ghost use Rattle.error.specs.Answer.{told_by};
 ghost use Rattle.peer.specs.Peers.{answer_of};
 ghost use Rattle.peer.specs.Area.{peer_bytes, state_ok};
-ghost use Rattle.log.specs.Areas.{areas};
+ghost use Rattle.replicated_log.specs.Areas.{areas};
 ghost use Rattle.cuwelfra.specs.Vectors.{count_told};
 ghost use Rattle.cuwelfra.specs.Exports.{exported, written_back};
 ghost use Rattle.cuwelfra.specs.Peers.{new_peer_area, started_area, lost_area, absorb_area, replace_area, record_ping_area, take_pong_area, rebase_area, pending_ops_area};

@@ -3,9 +3,9 @@ ghost use Rattle.std.specs.Prelude.{◌≡◌, ◌≤◌, length};
 ghost use Rattle.words.specs.Names.{Clock};
 ghost use Rattle.error.specs.Answer.{Answer, accepted, told_by};
 ghost use Rattle.clock.specs.Vector.{outcome_of};
-ghost use Rattle.log.specs.Areas.{areas};
-ghost use Rattle.log.specs.Calls.{log_len_call, pending_len_call, floor_call, watermark_call, clock_call, compacted_call, derive_call, can_serve_call, find_call, check_call};
-ghost use Rattle.log.specs.Answers.{stamp_of, ClockIs};
+ghost use Rattle.replicated_log.specs.Areas.{areas};
+ghost use Rattle.replicated_log.specs.Calls.{log_len_call, pending_len_call, floor_call, watermark_call, clock_call, compacted_call, derive_call, can_serve_call, find_call, check_call};
+ghost use Rattle.replicated_log.specs.Answers.{stamp_of, ClockIs};
 ghost use Rattle.cuwelfra.specs.Exports.{exported};
 ghost use Rattle.cuwelfra.specs.Vectors.{count_told, cover_told};
 ghost use Rattle.cuwelfra.specs.Stores.{stamp_told, lookup_told, clock_out};
@@ -13,7 +13,7 @@ ghost use Rattle.cuwelfra.specs.Stores.{stamp_told, lookup_told, clock_out};
 use crate::vector::ClockTold;
 use clock::vector::{CoverAnswer, NumberAnswer, Outcome};
 use error::{Refusal, Told};
-use log::{ClockAnswer, Place, StampAnswer};
+use replicated_log::{ClockAnswer, Place, StampAnswer};
 use stubs::ActorId;
 
 #[repr(C)]
@@ -71,35 +71,35 @@ pub(crate) fn stamp_told(r: StampAnswer) -> StampTold
 pub extern "C" fn cuwelfra_store_check(log: &[u8], held: &[u8], head: &[u8]) -> Told
     ensures { result ≡ told_by (check_call (areas log.now held.now head.now)) }
 {
-    outcome_told(log::check::check_store(log, held, head))
+    outcome_told(replicated_log::check::check_store(log, held, head))
 }
 
 #[unsafe(no_mangle)]
 pub extern "C" fn cuwelfra_log_len(log: &[u8], held: &[u8], head: &[u8]) -> ClockTold
     ensures { result ≡ count_told (log_len_call (areas log.now held.now head.now)) }
 {
-    crate::vector::clock_told(log::query::len(log, held, head))
+    crate::vector::clock_told(replicated_log::query::len(log, held, head))
 }
 
 #[unsafe(no_mangle)]
 pub extern "C" fn cuwelfra_pending_len(log: &[u8], held: &[u8], head: &[u8]) -> ClockTold
     ensures { result ≡ count_told (pending_len_call (areas log.now held.now head.now)) }
 {
-    crate::vector::clock_told(log::query::pending_len(log, held, head))
+    crate::vector::clock_told(replicated_log::query::pending_len(log, held, head))
 }
 
 #[unsafe(no_mangle)]
 pub extern "C" fn cuwelfra_floor(log: &[u8], held: &[u8], head: &[u8]) -> StampTold
     ensures { result ≡ stamp_told (floor_call (areas log.now held.now head.now)) }
 {
-    stamp_told(log::query::floor(log, held, head))
+    stamp_told(replicated_log::query::floor(log, held, head))
 }
 
 #[unsafe(no_mangle)]
 pub extern "C" fn cuwelfra_watermark(log: &[u8], held: &[u8], head: &[u8], actor: u64) -> StampTold
     ensures { result ≡ stamp_told (watermark_call (areas log.now held.now head.now) actor) }
 {
-    stamp_told(log::query::watermark(log, held, head, ActorId(actor)))
+    stamp_told(replicated_log::query::watermark(log, held, head, ActorId(actor)))
 }
 
 // Whether a peer with the clock in `peer` can be brought up to date: 1 or 0.
@@ -107,7 +107,7 @@ pub extern "C" fn cuwelfra_watermark(log: &[u8], held: &[u8], head: &[u8], actor
 pub extern "C" fn cuwelfra_can_serve(log: &[u8], held: &[u8], head: &[u8], peer: &[u8]) -> ClockTold
     ensures { result ≡ cover_told (can_serve_call (areas log.now held.now head.now) peer.now) }
 {
-    crate::vector::cover_told(log::query::can_serve(log, held, head, peer))
+    crate::vector::cover_told(replicated_log::query::can_serve(log, held, head, peer))
 }
 
 // Writes an answered clock to a clock area; a refused one leaves it.
@@ -134,7 +134,7 @@ pub extern "C" fn cuwelfra_log_clock(log: &[u8], held: &[u8], head: &[u8], clock
     if clock.len() < 520 {
         return error::tell(Refusal::ShortArea);
     }
-    put_clock(clock, log::query::clock(log, held, head))
+    put_clock(clock, replicated_log::query::clock(log, held, head))
 }
 
 // The compacted clock, into a clock area.
@@ -150,7 +150,7 @@ pub extern "C" fn cuwelfra_log_compacted(
     if clock.len() < 520 {
         return error::tell(Refusal::ShortArea);
     }
-    put_clock(clock, log::query::compacted(log, held, head))
+    put_clock(clock, replicated_log::query::compacted(log, held, head))
 }
 
 // The clock derived from the logged rows, into a clock area.
@@ -166,7 +166,7 @@ pub extern "C" fn cuwelfra_derive_clock(
     if clock.len() < 520 {
         return error::tell(Refusal::ShortArea);
     }
-    put_clock(clock, log::query::derive_clock(log, held, head))
+    put_clock(clock, replicated_log::query::derive_clock(log, held, head))
 }
 
 #[repr(C)]
@@ -200,14 +200,14 @@ pub extern "C" fn cuwelfra_lookup(
 ) -> LookupTold
     ensures { result ≡ lookup_told (areas log.now held.now head.now) (find_call (areas log.now held.now head.now) actor seq) }
 {
-    let place = log::lookup::find(log, held, head, ActorId(actor), seq);
+    let place = replicated_log::lookup::find(log, held, head, ActorId(actor), seq);
     match place {
         Place::Logged(i) => {
-            let payload = log::raw::payload(log, i);
+            let payload = replicated_log::raw::payload(log, i);
             found(1, i, payload.len())
         }
         Place::Held(i) => {
-            let payload = log::raw::payload(held, i);
+            let payload = replicated_log::raw::payload(held, i);
             found(2, i, payload.len())
         }
         Place::Absent => found(0, 0, 0),

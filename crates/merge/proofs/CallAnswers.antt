@@ -10,14 +10,14 @@ use Rattle.words.specs.Areas.{put_at}
 use Rattle.error.specs.declared.Refusal.{Refusal}
 use Rattle.error.specs.Answer.{Answer, done, refused, nothing, ends}
 use Rattle.row.specs.Reading.{BatchRow}
-use Rattle.log.specs.Store.{Store}
-use Rattle.log.specs.Areas.{Areas, areas, capacity, read_store, write_store, decode_store, rows_of, floor_at}
-use Rattle.log.specs.Inside.StoreChanges.{Stored, AllFit}
-use Rattle.log.proofs.Store.Rules.{kept}
-use Rattle.log.proofs.Store.Encoding.{reads, read_rules}
-use Rattle.log.proofs.Calls.Queries.{read_passed, Passed}
-use Rattle.log.proofs.Calls.Changes.{read_stored}
-use Rattle.log.proofs.Calls.Restoration.{all_length}
+use Rattle.replicated_log.specs.Store.{Store}
+use Rattle.replicated_log.specs.Areas.{Areas, areas, capacity, read_store, write_store, decode_store, rows_of, floor_at}
+use Rattle.replicated_log.specs.Inside.StoreChanges.{Stored, AllFit}
+use Rattle.replicated_log.proofs.Store.Rules.{kept}
+use Rattle.replicated_log.proofs.Store.Encoding.{reads, read_rules}
+use Rattle.replicated_log.proofs.Calls.Queries.{read_passed, Passed}
+use Rattle.replicated_log.proofs.Calls.Changes.{read_stored}
+use Rattle.replicated_log.proofs.Calls.Restoration.{all_length}
 use Rattle.merging.specs.Batch.{Limits, limits_ok, read_batch}
 use Rattle.merging.specs.Merging.{quotas, commit, merge}
 use Rattle.merging.specs.Calls.{Lent, room_for, batch_answer, batch_ends, batch_call}
@@ -38,7 +38,7 @@ use Rattle.merge.proofs.RisingReferences.{length_work}
 use Rattle.merge.proofs.Preparation.{room_scratch, room_output}
 use Rattle.merge.proofs.Judgement.{rows_time}
 use Rattle.merge.proofs.WrittenAreas.{with_held, commit_is, batch_written}
-use Rattle.log.specs.Insertion.{insert_all, fits}
+use Rattle.replicated_log.specs.Insertion.{insert_all, fits}
 
 -- ---- 14 to 18
 

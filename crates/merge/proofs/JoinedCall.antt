@@ -5,7 +5,7 @@ use mathlib.Core.List.{List}
 use Rattle.error.specs.declared.Refusal.{Refusal}
 use Rattle.error.specs.Answer.{ends}
 use Rattle.clock.specs.declared.hybrid.HybridClock.{HybridClock}
-use Rattle.log.specs.Areas.{Areas}
+use Rattle.replicated_log.specs.Areas.{Areas}
 use Rattle.merging.specs.Batch.{read_batch}
 use Rattle.merging.specs.Calls.{BatchCall, Lent, batch_call}
 use Rattle.merging.specs.Delta.{fold, stamps_read, delta_ends, delta_call}

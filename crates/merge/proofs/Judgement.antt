@@ -18,15 +18,15 @@ use Rattle.clock.specs.Area.{clock_at}
 use Rattle.row.specs.Rows.{HeldRow}
 use Rattle.row.specs.Slots.{slots_at}
 use Rattle.row.specs.Reading.{BatchRow}
-use Rattle.log.specs.Store.{Store, derive}
-use Rattle.log.specs.Areas.{Areas, capacity, decode_store, rows_of}
-use Rattle.log.specs.Answers.{unit_of}
-use Rattle.log.proofs.Tables.DerivedClock.{derive_append}
-use Rattle.log.proofs.Store.Rules.{kept, Kept}
-use Rattle.log.proofs.Store.Encoding.{reads, read_rules}
-use Rattle.log.proofs.Calls.Queries.{Passed, read_passed}
-use Rattle.log.proofs.Calls.Changes.{read_stored, fits_room}
-use Rattle.log.proofs.Calls.Restoration.{all_clock}
+use Rattle.replicated_log.specs.Store.{Store, derive}
+use Rattle.replicated_log.specs.Areas.{Areas, capacity, decode_store, rows_of}
+use Rattle.replicated_log.specs.Answers.{unit_of}
+use Rattle.replicated_log.proofs.Tables.DerivedClock.{derive_append}
+use Rattle.replicated_log.proofs.Store.Rules.{kept, Kept}
+use Rattle.replicated_log.proofs.Store.Encoding.{reads, read_rules}
+use Rattle.replicated_log.proofs.Calls.Queries.{Passed, read_passed}
+use Rattle.replicated_log.proofs.Calls.Changes.{read_stored, fits_room}
+use Rattle.replicated_log.proofs.Calls.Restoration.{all_clock}
 use Rattle.merging.specs.Batch.{Limits, read_rows}
 use Rattle.merging.specs.Merging.{unexpired, Admitted, admit_all, Drained, drain, fate, lines, quotas, Merged, commit, report, settle, finish, merge, starting}
 use Rattle.merging.specs.Trace.{Fits}
@@ -48,7 +48,7 @@ use Rattle.merge.proofs.UsedSlots.{used_slot, used_refs, used_rows, used_slots}
 use Rattle.merge.proofs.RisingReferences.{slots_rise, length_work, length_slots}
 use Rattle.merge.proofs.WrittenAreas.{with_held, commit_is}
 use Rattle.words.specs.Lists.{count_if}
-use Rattle.log.specs.Insertion.{insert_all, fits}
+use Rattle.replicated_log.specs.Insertion.{insert_all, fits}
 use Rattle.merging.specs.Inside.RowStarts.{StartsAt}
 
 -- ---- 14 to 18 in one answer

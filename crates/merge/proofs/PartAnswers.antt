@@ -10,7 +10,7 @@ use Rattle.clock.specs.Vector.{entries}
 use Rattle.clock.specs.Area.{clock_at}
 use Rattle.row.specs.Slots.{slots_at}
 use Rattle.row.specs.Reading.{BatchRow}
-use Rattle.log.specs.Areas.{Areas}
+use Rattle.replicated_log.specs.Areas.{Areas}
 use Rattle.merging.specs.Batch.{Limits, read_rows}
 use Rattle.merging.specs.Merging.{admit_all, starting, unexpired}
 use Rattle.merging.specs.Calls.{room_for, batch_answer}

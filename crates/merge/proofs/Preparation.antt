@@ -12,9 +12,9 @@ use Rattle.words.proofs.Conjunction.{and_left, and_right}
 use Rattle.error.specs.declared.Refusal.{Refusal}
 use Rattle.error.specs.declared.Refusal.TheVariants.{OverCapacity, ShortArea}
 use Rattle.error.specs.Answer.{Answer, done, refused, nothing}
-use Rattle.log.specs.Store.{Store}
-use Rattle.log.specs.Areas.{Areas, capacity, read_store, decode_store}
-use Rattle.log.proofs.Calls.Queries.{Passed}
+use Rattle.replicated_log.specs.Store.{Store}
+use Rattle.replicated_log.specs.Areas.{Areas, capacity, read_store, decode_store}
+use Rattle.replicated_log.proofs.Calls.Queries.{Passed}
 use Rattle.merging.specs.Batch.{Limits, limits_ok, whole, read_rows, read_batch, validate_all}
 use Rattle.merging.specs.Merging.{merge}
 use Rattle.merging.specs.Calls.{room_for, batch_answer}

@@ -11,7 +11,7 @@ use Rattle.words.specs.Be.{get64, column}
 use Rattle.words.proofs.Conjunction.{and_left, and_right}
 use Rattle.row.specs.Rows.{HeldRow, work_less}
 use Rattle.row.specs.Slots.{slot_at, decode_held, slots_at}
-use Rattle.log.specs.Store.{below_next, held_rise}
+use Rattle.replicated_log.specs.Store.{below_next, held_rise}
 use Rattle.merging.proofs.RowOrders.{work_trans, work_irrefl}
 use Rattle.working.specs.Inside.References.{ref_ok, refs_ok, work_row, work_rows}
 use Rattle.working.proofs.ReferenceRows.{ok_held, work_held}

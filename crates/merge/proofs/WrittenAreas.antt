@@ -22,24 +22,24 @@ use Rattle.clock.specs.declared.stamp.Timestamp.{Timestamp}
 use Rattle.clock.specs.Vector.{clock_of}
 use Rattle.clock.specs.Area.{clock_bytes}
 use Rattle.row.specs.Rows.{Row, HeldRow}
-use Rattle.log.specs.Store.{MaybeStamp, Store}
-use Rattle.log.specs.Areas.{Areas, areas, capacity, read_store, write_store, head_bytes, encode_marks, floor_words, floor_at, rows_of, decode_store}
-use Rattle.log.specs.declared.StampAnswer.{StampAnswer}
-use Rattle.log.specs.Answers.{stamp_of}
-use Rattle.log.specs.Inside.StoreChanges.{Stored}
-use Rattle.log.proofs.Store.Encoding.{write_read}
-use Rattle.log.proofs.Store.HeadBytes.{length_head}
-use Rattle.log.proofs.Store.Rules.{kept}
-use Rattle.log.proofs.Calls.Changes.{read_stored, written}
-use Rattle.log.proofs.Calls.Queries.{Passed, stopped}
-use Rattle.log.proofs.Calls.Restoration.{all_held_same}
+use Rattle.replicated_log.specs.Store.{MaybeStamp, Store}
+use Rattle.replicated_log.specs.Areas.{Areas, areas, capacity, read_store, write_store, head_bytes, encode_marks, floor_words, floor_at, rows_of, decode_store}
+use Rattle.replicated_log.specs.declared.StampAnswer.{StampAnswer}
+use Rattle.replicated_log.specs.Answers.{stamp_of}
+use Rattle.replicated_log.specs.Inside.StoreChanges.{Stored}
+use Rattle.replicated_log.proofs.Store.Encoding.{write_read}
+use Rattle.replicated_log.proofs.Store.HeadBytes.{length_head}
+use Rattle.replicated_log.proofs.Store.Rules.{kept}
+use Rattle.replicated_log.proofs.Calls.Changes.{read_stored, written}
+use Rattle.replicated_log.proofs.Calls.Queries.{Passed, stopped}
+use Rattle.replicated_log.proofs.Calls.Restoration.{all_held_same}
 use Rattle.merging.specs.Merging.{Drained, above_floor, commit}
 use Rattle.merging.specs.Calls.{room_for, raise_floor, with_floor, set_floor_call}
 use Rattle.commit.specs.Inside.Logging.{floor_of}
 use Rattle.commit.proofs.RowFate.{floor_told}
-use Rattle.log.specs.Insertion.{insert, insert_all}
+use Rattle.replicated_log.specs.Insertion.{insert, insert_all}
 use Rattle.clock.specs.Order.{stamp_key}
-use Rattle.log.specs.Calls.{check_call}
+use Rattle.replicated_log.specs.Calls.{check_call}
 
 -- a part replaced by one of its length
 pub put_mid : (p q r s : List ℕ) (n : ℕ) → length p ≡ n → length q ≡ length r → put_at (p ++ (q ++ s)) n r ≡ p ++ (r ++ s)

@@ -1,7 +1,7 @@
 // A batch merged, no stamp folded: the first part of the batch call, which no crate above can call.
 ghost use Rattle.std.specs.Prelude.{◌≡◌, ◌≤◌, length, replicate};
 ghost use Rattle.error.specs.Answer.{ends};
-ghost use Rattle.log.specs.Areas.{areas};
+ghost use Rattle.replicated_log.specs.Areas.{areas};
 ghost use Rattle.merging.specs.Calls.{batch_call};
 ghost use Rattle.batch.specs.Settings.{limits_of};
 ghost use Rattle.merge.specs.Inside.Decision.{CommitNeeds, Commits, StartsKnown};

@@ -1,7 +1,7 @@
 // What a batch comes to, decided before any area but scratch is written.
 ghost use Rattle.std.specs.Prelude.{◌≡◌, ◌-◌, ◌≤◌, length};
 ghost use Rattle.clock.specs.Vector.{outcome_of};
-ghost use Rattle.log.specs.Areas.{areas};
+ghost use Rattle.replicated_log.specs.Areas.{areas};
 ghost use Rattle.merging.specs.Calls.{room_for};
 ghost use Rattle.batch.specs.Settings.{limits_of};
 ghost use Rattle.merge.specs.Inside.Decision.{Opened, TakesIn, Prepares, SettleNeeds, Settles, JudgeNeeds, Judged, Merges, Decides, decided_of, StartsKnown};
@@ -11,7 +11,7 @@ use batch::raw::read_batch;
 use batch::settings::are_within;
 use clock::vector::Outcome;
 use error::Refusal;
-use log::check::check_store;
+use replicated_log::check::check_store;
 use quota::raw::{quotas, room};
 use row::Reading;
 use words::raw::get_word;

@@ -1,6 +1,6 @@
 // The batch call: a batch is merged, and then its stamps are folded into the hybrid clock.
 ghost use Rattle.std.specs.Prelude.{◌≡◌};
-ghost use Rattle.log.specs.Areas.{areas};
+ghost use Rattle.replicated_log.specs.Areas.{areas};
 ghost use Rattle.merging.specs.Delta.{delta_call};
 ghost use Rattle.batch.specs.Settings.{limits_of};
 ghost use Rattle.merge.specs.Reports.{joined_of};

@@ -13,8 +13,8 @@ use Rattle.error.specs.Answer.{done}
 use Rattle.clock.specs.Entries.{get}
 use Rattle.row.specs.Rows.{Row, HeldRow}
 use Rattle.row.specs.Reading.{BatchRow}
-use Rattle.log.specs.Store.{same_id}
-use Rattle.log.specs.Areas.{rows_of}
+use Rattle.replicated_log.specs.Store.{same_id}
+use Rattle.replicated_log.specs.Areas.{rows_of}
 use Rattle.merging.specs.Merging.{same_content, Known, absent, present, look, enter, Admitted, arrived, duplicate, when_known, admit, admit_all}
 use Rattle.merging.specs.Offers.{batch_rows}
 use Rattle.merging.proofs.Traces.{unless_done, then_done}

@@ -10,11 +10,11 @@ use Rattle.error.specs.Answer.{Answer, done, refused, nothing}
 use Rattle.clock.specs.declared.stamp.Timestamp.{Timestamp}
 use Rattle.clock.specs.declared.hybrid.HybridClock.{HybridClock}
 use Rattle.row.specs.Rows.{Row, stamp_ok}
-use Rattle.log.specs.Store.{Store, rules}
-use Rattle.log.specs.Areas.{Areas, capacity, read_store, write_store, leave}
-use Rattle.log.specs.Insertion.{insert}
-use Rattle.log.proofs.Store.Encoding.{capacity_write, read_write, read_rules, read_few, read_long}
-use Rattle.log.proofs.Store.RulesKept.{insert_rules}
+use Rattle.replicated_log.specs.Store.{Store, rules}
+use Rattle.replicated_log.specs.Areas.{Areas, capacity, read_store, write_store, leave}
+use Rattle.replicated_log.specs.Insertion.{insert}
+use Rattle.replicated_log.proofs.Store.Encoding.{capacity_write, read_write, read_rules, read_few, read_long}
+use Rattle.replicated_log.proofs.Store.RulesKept.{insert_rules}
 use Rattle.merging.specs.Batch.{read_batch}
 use Rattle.merging.specs.Merging.{Merged, merge}
 use Rattle.merging.specs.Calls.{BatchCall, batch_answer, batch_ends, batch_call, with_floor, set_floor_call}

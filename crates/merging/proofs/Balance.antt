@@ -12,8 +12,8 @@ use Rattle.error.specs.Answer.{Answer, done, refused}
 use Rattle.clock.specs.Entries.{get}
 use Rattle.row.specs.Rows.{HeldRow, work_less}
 use Rattle.row.specs.Reading.{BatchRow}
-use Rattle.log.specs.Store.{Store}
-use Rattle.log.specs.Areas.{rows_of}
+use Rattle.replicated_log.specs.Store.{Store}
+use Rattle.replicated_log.specs.Areas.{rows_of}
 use Rattle.merging.specs.Merging.{unexpired, same_content, Known, absent, present, look, enter, Admitted, starting, arrived, duplicate, when_known, admit, admit_all, ready, FirstReady, none_ready, first_is, past, first_ready, Drained, logging, dropping, take_first, to_drain, drain, fate, Report, Merged, commit, report, settle, in_time}
 use Rattle.merging.specs.Calls.{batch_answer, batch_ends, batch_call}
 use Rattle.merging.specs.Delta.{delta_ends, delta_call}

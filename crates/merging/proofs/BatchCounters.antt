@@ -13,7 +13,7 @@ use Rattle.codec.proofs.ReadSteps.{after_got}
 use Rattle.clock.specs.declared.stamp.Timestamp.{Timestamp}
 use Rattle.row.specs.Reading.{read_head, read_deps, read_part, read_closing, BatchRow, batch_row, read_row}
 use Rattle.row.proofs.ReadRows.{head_got}
-use Rattle.log.specs.Areas.{Areas}
+use Rattle.replicated_log.specs.Areas.{Areas}
 use Rattle.merging.specs.Batch.{Limits, read_batch, validate}
 use Rattle.merging.specs.Merging.{Merged}
 use Rattle.merging.specs.Calls.{BatchCall, batch_answer}

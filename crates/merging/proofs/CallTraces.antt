@@ -15,8 +15,8 @@ use Rattle.clock.specs.declared.stamp.Timestamp.{Timestamp}
 use Rattle.clock.proofs.LexicographicOrder.{clash}
 use Rattle.clock.specs.declared.hybrid.HybridClock.{HybridClock}
 use Rattle.row.specs.Rows.{Row}
-use Rattle.log.specs.Store.{Store}
-use Rattle.log.specs.Areas.{Areas, capacity, read_store, leave}
+use Rattle.replicated_log.specs.Store.{Store}
+use Rattle.replicated_log.specs.Areas.{Areas, capacity, read_store, leave}
 use Rattle.merging.specs.Batch.{limits_ok, read_batch}
 use Rattle.merging.specs.Merging.{Merged, merge}
 use Rattle.merging.specs.Calls.{BatchCall, room_for, batch_answer, batch_ends, batch_call, with_floor, set_floor_call}

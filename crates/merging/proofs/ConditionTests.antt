@@ -13,7 +13,7 @@ use Rattle.words.proofs.Conjunction.{and_left, and_right, and_both}
 use Rattle.clock.proofs.LexicographicOrder.{clash}
 use Rattle.row.specs.Rows.{Row, byte_list, stamp_ok}
 use Rattle.row.proofs.ListTests.{list_bytes}
-use Rattle.log.specs.Store.{same_id}
+use Rattle.replicated_log.specs.Store.{same_id}
 use Rattle.merging.specs.Merging.{same_content}
 use Rattle.merging.specs.Offers.{Call, Given, AllGiven, Accepted, Spans, OneContent, Within}
 use Rattle.merging.specs.Expiring.{CarriesMissing}

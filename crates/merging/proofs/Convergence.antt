@@ -33,9 +33,9 @@ use mathlib.Core.List.{List, []}
 use native.Mathlib.Omega.{arith}
 use Rattle.clock.specs.Entries.{rising}
 use Rattle.row.specs.Rows.{word_pairs}
-use Rattle.log.specs.Store.{derive, never_falls, same_entries, held_rise, no_twice, marks_rise, floor_ok, clock_ok, rules}
-use Rattle.log.specs.Areas.{Areas, long_enough, write_store}
-use Rattle.log.proofs.Store.Encoding.{read_write}
+use Rattle.replicated_log.specs.Store.{derive, never_falls, same_entries, held_rise, no_twice, marks_rise, floor_ok, clock_ok, rules}
+use Rattle.replicated_log.specs.Areas.{Areas, long_enough, write_store}
+use Rattle.replicated_log.proofs.Store.Encoding.{read_write}
 use Rattle.merging.specs.Offers.{Call, Empty, run_calls, offered, accepted, AllGiven, AllMayStand, Demand3}
 use Rattle.merging.specs.Group.{empty_store}
 use Rattle.merging.proofs.StoreRuns.{Run, good, one_part}

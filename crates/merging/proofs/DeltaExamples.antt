@@ -10,7 +10,7 @@ use Rattle.error.specs.Numbers.{told}
 use Rattle.clock.specs.declared.hybrid.HybridClock.{HybridClock}
 use Rattle.clock.specs.Hlc.{greater, receive_l, receive_c, receive_event}
 use Rattle.clock.specs.Hybrid.{receive_at, update_call}
-use Rattle.log.specs.Areas.{Areas, capacity}
+use Rattle.replicated_log.specs.Areas.{Areas, capacity}
 use Rattle.merging.specs.Merging.{Merged}
 use Rattle.merging.specs.Calls.{BatchCall, batch_answer, batch_ends, batch_call}
 use Rattle.merging.specs.Delta.{Folded, fold, DeltaReport, DeltaLeft, delta_ends, delta_call}

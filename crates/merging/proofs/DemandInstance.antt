@@ -25,9 +25,9 @@ use Rattle.row.specs.Unsigned.{read_unsigned}
 use Rattle.row.specs.Wire.{stamped_bytes, pair_bytes, deps_bytes, unsigned_bytes}
 use Rattle.row.specs.Slots.{encode_slots, slots_at}
 use Rattle.row.proofs.ListTests.{list_bytes}
-use Rattle.log.specs.Store.{MaybeStamp, Store, derive, never_falls, held_rise, no_twice, marks_rise, floor_ok, clock_ok, rules}
-use Rattle.log.specs.Calls.{read_clock}
-use Rattle.log.specs.Areas.{Areas, areas, capacity, floor_words, encode_marks, logged_rows, log_bytes, held_bytes, head_bytes, rows_of, stamp_at, floor_at, marks_at, decode_store, counts_ok, holds, sound_areas, long_enough, read_store}
+use Rattle.replicated_log.specs.Store.{MaybeStamp, Store, derive, never_falls, held_rise, no_twice, marks_rise, floor_ok, clock_ok, rules}
+use Rattle.replicated_log.specs.Calls.{read_clock}
+use Rattle.replicated_log.specs.Areas.{Areas, areas, capacity, floor_words, encode_marks, logged_rows, log_bytes, held_bytes, head_bytes, rows_of, stamp_at, floor_at, marks_at, decode_store, counts_ok, holds, sound_areas, long_enough, read_store}
 use Rattle.merging.specs.Calls.{BatchCall, raise_floor}
 use Rattle.merging.specs.Desk.{PrepareCall, too_large, next_seq, prepare_answer, prepare_ends, prepare_call, signed, read_sealed, seal_row, writable, seal_tests}
 use Rattle.merging.specs.OwnRows.{CanPrepare, bytes_to_sign}

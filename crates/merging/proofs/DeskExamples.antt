@@ -14,8 +14,8 @@ use Rattle.clock.specs.Vector.{clock_of}
 use Rattle.clock.specs.Area.{clock_bytes}
 use Rattle.row.specs.Rows.{Row}
 use Rattle.row.specs.Unsigned.{read_unsigned}
-use Rattle.log.specs.Store.{Store}
-use Rattle.log.specs.Areas.{Areas, areas, capacity, counts_ok, sound_areas, long_enough, read_store}
+use Rattle.replicated_log.specs.Store.{Store}
+use Rattle.replicated_log.specs.Areas.{Areas, areas, capacity, counts_ok, sound_areas, long_enough, read_store}
 use Rattle.merging.specs.Desk.{PrepareCall, next_seq, prepare_call, read_sealed, seal_tests, seal_row, seal_answer}
 use Rattle.merging.specs.Group.{own, stamp_of, row_of, held, holding, r21}
 use Rattle.merging.proofs.Examples.{computing, reading, r11, entries_from, marks_from}

@@ -12,9 +12,9 @@ use borrow.Author.Tests.{leb-true, leb-false, le-leb, eqb-true, eqb-false}
 use Rattle.words.specs.Choice.{pick}
 use Rattle.clock.specs.Entries.{get, observe, dominates}
 use Rattle.row.specs.Rows.{Row, HeldRow}
-use Rattle.log.specs.Store.{Store}
-use Rattle.log.specs.Areas.{rows_of}
-use Rattle.log.specs.Insertion.{insert, insert_all}
+use Rattle.replicated_log.specs.Store.{Store}
+use Rattle.replicated_log.specs.Areas.{rows_of}
+use Rattle.replicated_log.specs.Insertion.{insert, insert_all}
 use Rattle.merging.specs.Merging.{ready, FirstReady, none_ready, first_is, past, first_ready, Admitted, Drained, to_drain, logging, dropping, take_first, drain, settle}
 use Rattle.merging.specs.Offers.{Sorted}
 use Rattle.merging.specs.Least.{Taken, here, there}

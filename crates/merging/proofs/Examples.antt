@@ -17,8 +17,8 @@ use Rattle.codec.specs.Leb128.{groups, has_last, value_of, overlong}
 use Rattle.codec.specs.Reading.{judged, judge, get_any, only_shortest, get_varint, get_u32, part_of}
 use Rattle.row.specs.Rows.{Row, outcome_ok, work_key, work_less}
 use Rattle.row.specs.Reading.{BatchRow, number, get_head, read_head, read_pair, read_pairs, read_deps, read_part, read_closing, read_row}
-use Rattle.log.specs.Store.{Mark, same_id, same_entries}
-use Rattle.log.specs.Areas.{rows_of}
+use Rattle.replicated_log.specs.Store.{Mark, same_id, same_entries}
+use Rattle.replicated_log.specs.Areas.{rows_of}
 use Rattle.merging.specs.Batch.{Limits, limits_ok, read_rows, read_batch, own_future, validate, validate_all}
 use Rattle.merging.specs.Merging.{unexpired, same_stamp, same_content, look, enter, when_known, admit, admit_all, ready, past, first_ready, take_first, drain, above_floor, fate, fate_detail, line, row_line, lines, payload_bytes, authors, times, lower, lowest_over, author_quota, quotas, Report, Merged, commit, report, settle, finish, merge, in_time}
 use Rattle.merging.specs.Calls.{room_for}
@@ -26,7 +26,7 @@ use Rattle.merging.specs.Offers.{log_less}
 use Rattle.merging.specs.Group.{stamp_of, row_of, held, empty_store, settings, r21}
 use Rattle.words.specs.Lists.{same, count_if}
 use Rattle.words.specs.Choice.{saturating}
-use Rattle.log.specs.Insertion.{insert_row, later, raise, insert, insert_all, fits}
+use Rattle.replicated_log.specs.Insertion.{insert_row, later, raise, insert, insert_all, fits}
 
 -- ---- rows, stores, settings
 

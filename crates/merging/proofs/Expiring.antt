@@ -14,11 +14,11 @@ use Rattle.clock.specs.declared.hybrid.HybridClock.{HybridClock}
 use Rattle.clock.specs.Entries.{get}
 use Rattle.row.specs.Rows.{Row}
 use Rattle.row.specs.Reading.{BatchRow}
-use Rattle.log.specs.Store.{Store}
-use Rattle.log.specs.Areas.{Areas, rows_of, read_store}
-use Rattle.log.specs.Insertion.{insert}
-use Rattle.log.proofs.Store.Rules.{kept, clock_few}
-use Rattle.log.proofs.Store.Encoding.{read_rules}
+use Rattle.replicated_log.specs.Store.{Store}
+use Rattle.replicated_log.specs.Areas.{Areas, rows_of, read_store}
+use Rattle.replicated_log.specs.Insertion.{insert}
+use Rattle.replicated_log.proofs.Store.Rules.{kept, clock_few}
+use Rattle.replicated_log.proofs.Store.Encoding.{read_rules}
 use Rattle.merging.specs.Batch.{Limits, read_batch, validate_all}
 use Rattle.merging.specs.Merging.{staying, Admitted, starting, admit_all, settle, commit, quotas, Merged, merge}
 use Rattle.merging.specs.Calls.{BatchCall, batch_answer, batch_ends, batch_call}

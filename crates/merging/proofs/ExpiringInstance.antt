@@ -7,8 +7,8 @@ use mathlib.Core.List.{List, [], ◌∷◌, ◌++◌}
 use native.Mathlib.Omega.{arith}
 use Rattle.error.specs.Answer.{done}
 use Rattle.merging.specs.Batch.{read_batch}
-use Rattle.log.specs.Store.{Store}
-use Rattle.log.specs.Areas.{rows_of, read_store}
+use Rattle.replicated_log.specs.Store.{Store}
+use Rattle.replicated_log.specs.Areas.{rows_of, read_store}
 use Rattle.merging.specs.Calls.{BatchCall}
 use Rattle.merging.specs.Delta.{DeltaReport, delta_call}
 use Rattle.merging.specs.Offers.{Call, AllGiven, AllMayStand, after_call, run_calls, rows_read, offered, accepted, Spans, OneContent, Within}

@@ -11,8 +11,8 @@ use lib.ListN.{length}
 use Rattle.error.specs.Answer.{done}
 use Rattle.clock.specs.declared.hybrid.HybridClock.{HybridClock}
 use Rattle.row.specs.Rows.{Row, byte_list}
-use Rattle.log.specs.Store.{Store}
-use Rattle.log.specs.Areas.{Areas, rows_of, read_store}
+use Rattle.replicated_log.specs.Store.{Store}
+use Rattle.replicated_log.specs.Areas.{Areas, rows_of, read_store}
 use Rattle.merging.specs.Batch.{read_batch}
 use Rattle.merging.specs.Calls.{BatchCall}
 use Rattle.merging.specs.Delta.{DeltaReport, delta_call}

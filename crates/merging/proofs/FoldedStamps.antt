@@ -21,7 +21,7 @@ use Rattle.clock.specs.Hybrid.{hlc_of, stamp_hlc, now_call, receive_at, update_c
 use Rattle.clock.specs.Monotone.{Event, History, step, run, with_remote}
 use Rattle.clock.proofs.Monotone.{Before, UpTo, before_up_to, receive_passes, Reached, run_keeps, issued_past, issued_greater}
 use Rattle.clock.proofs.HybridLaws.{max_right, max_left, counter_both, counter_remote, counter_none}
-use Rattle.log.specs.Areas.{Areas}
+use Rattle.replicated_log.specs.Areas.{Areas}
 use Rattle.merging.specs.Batch.{read_batch}
 use Rattle.merging.specs.Merging.{Merged}
 use Rattle.merging.specs.Calls.{BatchCall, batch_answer, batch_ends, batch_call}

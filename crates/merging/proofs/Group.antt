@@ -20,9 +20,9 @@ use Rattle.codec.proofs.RoundTrip.{varints}
 use Rattle.row.specs.Rows.{outcome_ok, stamp_ok, row_ok, held_ok, word_pairs, byte_list}
 use Rattle.row.specs.Wire.{stamped_bytes, pair_bytes, deps_bytes, unsigned_bytes, signed_bytes}
 use Rattle.row.proofs.ListTests.{list_bytes}
-use Rattle.log.specs.Store.{Store, derive, never_falls, below_next, held_rise, absent_from, no_twice, marks_rise, floor_ok, clock_ok, rules}
-use Rattle.log.specs.Areas.{Areas, areas, capacity, long_enough, read_store}
-use Rattle.log.proofs.Store.Encoding.{capacity_write, read_write}
+use Rattle.replicated_log.specs.Store.{Store, derive, never_falls, below_next, held_rise, absent_from, no_twice, marks_rise, floor_ok, clock_ok, rules}
+use Rattle.replicated_log.specs.Areas.{Areas, areas, capacity, long_enough, read_store}
+use Rattle.replicated_log.proofs.Store.Encoding.{capacity_write, read_write}
 use Rattle.merging.specs.Merging.{Merged}
 use Rattle.merging.specs.Calls.{BatchCall, batch_answer, batch_ends, batch_call}
 use Rattle.merging.specs.Delta.{delta_ends, delta_call}

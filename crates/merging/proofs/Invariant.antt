@@ -16,8 +16,8 @@ use Rattle.clock.proofs.LexicographicOrder.{stamp_total}
 use Rattle.clock.proofs.RisingAuthors.{Rises, observe_rises}
 use Rattle.row.specs.Rows.{Row, HeldRow, work_less}
 use Rattle.row.specs.Reading.{BatchRow}
-use Rattle.log.specs.Store.{Store}
-use Rattle.log.specs.Areas.{rows_of}
+use Rattle.replicated_log.specs.Store.{Store}
+use Rattle.replicated_log.specs.Areas.{rows_of}
 use Rattle.merging.specs.Merging.{ready, Admitted, arrived, admit_all, settle}
 use Rattle.merging.specs.Offers.{batch_rows, count, CausalListing, log_less, Sorted, Within, OneContent}
 use Rattle.merging.specs.Least.{Taken}
@@ -29,7 +29,7 @@ use Rattle.merging.proofs.RowLists.{rows_mem, rows_last, goes_before, enter_rows
 use Rattle.merging.proofs.DrainInduction.{taken_self, taken_rest, taken_cases, taken_rows, taken_sorted, taken_apart, ready_seq, ready_deps, EndsIn, settled}
 use Rattle.merging.proofs.Admission.{Admits, old, again, new, admits, admits_same, admitted}
 use Rattle.merging.proofs.RowContent.{one_row_lem}
-use Rattle.log.specs.Insertion.{insert_row, insert, insert_all}
+use Rattle.replicated_log.specs.Insertion.{insert_row, insert, insert_all}
 
 -- refusals 5 and 6: an offered row has a sequence above 0, and its stamp is its author's
 pub record Valid (r : Row) : Type 0 where

@@ -14,7 +14,7 @@ use Rattle.words.proofs.Words.{test}
 use Rattle.clock.specs.Entries.{get}
 use Rattle.clock.proofs.LexicographicOrder.{clash}
 use Rattle.row.specs.Rows.{HeldRow, work_less}
-use Rattle.log.specs.Areas.{rows_of}
+use Rattle.replicated_log.specs.Areas.{rows_of}
 use Rattle.merging.specs.Merging.{ready, FirstReady, none_ready, first_is, past, first_ready, Drained, logging, dropping, take_first, to_drain, drain, settle}
 use Rattle.merging.specs.Offers.{Sorted}
 use Rattle.merging.specs.Least.{Least, FirstIsLeast, WorkingInOrder, Taken, here, there, Drains, ended, logs, drops, SettleDrains, Enough, NoneReady}

@@ -4,9 +4,9 @@ use Rattle.words.specs.Areas.{put_at}
 use Rattle.clock.specs.Hybrid.{now_call}
 use Rattle.row.specs.Rows.{Row}
 use Rattle.error.specs.Answer.{Answer, done, refused, and_then, nothing}
-use Rattle.log.specs.Store.{Store}
-use Rattle.log.specs.Areas.{capacity, read_store, write_store, leave}
-use Rattle.log.specs.Insertion.{insert}
+use Rattle.replicated_log.specs.Store.{Store}
+use Rattle.replicated_log.specs.Areas.{capacity, read_store, write_store, leave}
+use Rattle.replicated_log.specs.Insertion.{insert}
 use Rattle.merging.specs.Merging.{Merged}
 use Rattle.merging.specs.Calls.{batch_answer, batch_ends, batch_call, with_floor, set_floor_call}
 use Rattle.merging.specs.Delta.{delta_ends, delta_call}

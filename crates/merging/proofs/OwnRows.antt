@@ -34,8 +34,8 @@ use Rattle.row.proofs.DepsPairs.{DepsOk, deps_of_lem, length_pairs_le}
 use Rattle.row.proofs.CanonicalSlot.{HeldGood}
 use Rattle.row.proofs.RowBounds.{row_good, good_row}
 use Rattle.row.proofs.RoundTrip.{head_there, deps_there, sized_there}
-use Rattle.log.specs.Calls.{read_clock}
-use Rattle.log.proofs.Store.Soundness.{words_in}
+use Rattle.replicated_log.specs.Calls.{read_clock}
+use Rattle.replicated_log.proofs.Store.Soundness.{words_in}
 use Rattle.merging.specs.Batch.{whole}
 use Rattle.merging.specs.Desk.{PrepareCall, too_large, prepare_ends, prepare_call, signed, read_sealed}
 use Rattle.merging.specs.OwnRows.{CanPrepare, bytes_to_sign, SealsPrepared, OwnMayStand, RefusedMayStand, ReadAlike}

@@ -8,8 +8,8 @@ use Rattle.clock.specs.declared.stamp.Timestamp.{Timestamp}
 use Rattle.row.specs.Rows.{Row}
 use Rattle.row.proofs.ListTests as truths
 use Rattle.words.proofs.Conjunction.{and_left, and_right, and_both}
-use Rattle.log.specs.Store.{same_entries}
-use Rattle.log.proofs.Store.Rules as rules
+use Rattle.replicated_log.specs.Store.{same_entries}
+use Rattle.replicated_log.proofs.Store.Rules as rules
 use Rattle.merging.specs.Merging.{same_stamp, same_content}
 use Rattle.words.specs.Lists.{same}
 use Rattle.merging.specs.Offers.{OneRow}

@@ -12,14 +12,14 @@ use Rattle.words.specs.Choice.{pick}
 use Rattle.words.proofs.Words.{test}
 use Rattle.clock.specs.Order.{stamp_less}
 use Rattle.row.specs.Rows.{Row, HeldRow, work_less}
-use Rattle.log.specs.Store.{Store}
-use Rattle.log.specs.Areas.{rows_of}
-use Rattle.log.proofs.Store.Rules.{length_rows}
+use Rattle.replicated_log.specs.Store.{Store}
+use Rattle.replicated_log.specs.Areas.{rows_of}
+use Rattle.replicated_log.proofs.Store.Rules.{length_rows}
 use Rattle.merging.specs.Batch.{Limits}
 use Rattle.merging.specs.Merging.{unexpired, enter, in_time, payload_bytes, authors, quotas}
 use Rattle.merging.specs.Offers.{Sorted, Within}
 use Rattle.merging.proofs.SortedLists.{place}
-use Rattle.log.specs.Insertion.{insert_row, insert, insert_all}
+use Rattle.replicated_log.specs.Insertion.{insert_row, insert, insert_all}
 
 -- ---- the rows of held rows
 

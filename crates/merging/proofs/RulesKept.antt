@@ -18,16 +18,16 @@ use Rattle.clock.specs.declared.stamp.Timestamp.{Timestamp}
 use Rattle.clock.specs.Order.{stamp_less}
 use Rattle.row.specs.Rows.{Row, HeldRow, work_less, outcome_ok, row_ok, held_ok, stamp_ok}
 use Rattle.row.specs.Reading.{BatchRow}
-use Rattle.log.specs.Store.{MaybeStamp, Store, below_next, held_rise, same_id, absent_from, no_twice, floor_ok, rules}
-use Rattle.log.specs.Areas.{rows_of}
+use Rattle.replicated_log.specs.Store.{MaybeStamp, Store, below_next, held_rise, same_id, absent_from, no_twice, floor_ok, rules}
+use Rattle.replicated_log.specs.Areas.{rows_of}
 use Rattle.merging.specs.Batch.{Limits, limits_ok}
 use Rattle.merging.specs.Merging.{unexpired, Admitted, arrived, admit_all, quotas, Drained, settle, above_floor, commit, Merged, merge}
 use Rattle.merging.specs.Calls.{raise_floor, with_floor}
 use Rattle.merging.specs.Offers.{Sorted}
 use Rattle.merging.specs.Trace.{Went}
 use Rattle.merging.proofs.Traces.{unless_done, merge_went}
-use Rattle.log.proofs.Store.Rules.{all_head, all_tail, all_cons, all_nil, all_rows, Kept, kept, keep}
-use Rattle.log.proofs.Store.RulesKept.{insert_all_rules}
+use Rattle.replicated_log.proofs.Store.Rules.{all_head, all_tail, all_cons, all_nil, all_rows, Kept, kept, keep}
+use Rattle.replicated_log.proofs.Store.RulesKept.{insert_all_rules}
 use Rattle.merging.specs.Least.{Taken}
 use Rattle.merging.proofs.SortedLists.{place, place_cases, place_sorted}
 use Rattle.merging.proofs.RowOrders.{work_trans, work_total}

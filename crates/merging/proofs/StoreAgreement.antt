@@ -11,8 +11,8 @@ use Rattle.clock.specs.Entries.{get}
 use Rattle.clock.proofs.LexicographicOrder.{clash}
 use Rattle.clock.proofs.RisingAuthors.{Rises}
 use Rattle.row.specs.Rows.{Row, work_less}
-use Rattle.log.specs.Store.{Store}
-use Rattle.log.specs.Areas.{rows_of}
+use Rattle.replicated_log.specs.Store.{Store}
+use Rattle.replicated_log.specs.Areas.{rows_of}
 use Rattle.merging.specs.Offers.{count, ListedAfter, log_less, Follows, Within, Agree}
 use Rattle.merging.proofs.SortedLists.{sorted_sublist, sorted_unique}
 use Rattle.merging.proofs.RowOrders.{work_trans, work_irrefl, log_trans, log_irrefl}

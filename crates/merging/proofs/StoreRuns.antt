@@ -17,8 +17,8 @@ use Rattle.clock.proofs.RisingAuthors.{Rises}
 use Rattle.clock.proofs.LexicographicOrder.{clash}
 use Rattle.row.specs.Rows.{Row, HeldRow}
 use Rattle.row.specs.Reading.{BatchRow}
-use Rattle.log.specs.Store.{Store}
-use Rattle.log.specs.Areas.{rows_of}
+use Rattle.replicated_log.specs.Store.{Store}
+use Rattle.replicated_log.specs.Areas.{rows_of}
 use Rattle.merging.specs.Batch.{Limits, validate, validate_all}
 use Rattle.merging.specs.Merging.{ready, staying, Admitted, starting, admit_all, Drained, settle, commit, Merged, merge}
 use Rattle.merging.specs.Calls.{with_floor}
@@ -32,7 +32,7 @@ use Rattle.merging.proofs.Admission.{admit_every}
 use Rattle.merging.proofs.Invariant.{Valid, AllValid, Inv, weaker, keeps_log, keeps_new, keeps_admits, settles}
 use Rattle.merging.proofs.ClockLaws.{get_others, get_member}
 use Rattle.merging.proofs.Sealings.{Seals, row_sealed}
-use Rattle.log.specs.Insertion.{insert_row, insert, insert_all}
+use Rattle.replicated_log.specs.Insertion.{insert_row, insert, insert_all}
 
 -- time and pending age of a batch
 abbrev pub accepting : ℕ → Limits → Accepted

@@ -15,15 +15,15 @@ use Rattle.error.specs.Answer.{Answer, done, refused, and_then, unless, nothing,
 use Rattle.clock.specs.declared.hybrid.HybridClock.{HybridClock}
 use Rattle.row.specs.Rows.{Row}
 use Rattle.row.specs.Reading.{BatchRow}
-use Rattle.log.specs.Store.{Store}
-use Rattle.log.specs.Areas.{Areas, capacity, read_store}
-use Rattle.log.proofs.Calls.Changes as changes
+use Rattle.replicated_log.specs.Store.{Store}
+use Rattle.replicated_log.specs.Areas.{Areas, capacity, read_store}
+use Rattle.replicated_log.proofs.Calls.Changes as changes
 use Rattle.merging.specs.Batch.{Limits, limits_ok, whole, read_batch, validate, validate_all}
 use Rattle.merging.specs.Merging.{staying, Admitted, starting, admit_all, Drained, lines, report, quotas, Merged, commit, settle, finish, merge}
 use Rattle.merging.specs.Calls.{BatchCall, room_for, batch_answer, batch_ends}
 use Rattle.merging.specs.Delta.{DeltaReport, DeltaLeft, delta_ends}
 use Rattle.merging.specs.Trace.{Fits, MergeWent, CallAnswered}
-use Rattle.log.specs.Insertion.{insert, insert_all, fits}
+use Rattle.replicated_log.specs.Insertion.{insert, insert_all, fits}
 
 -- an answer is no refusal
 pub not_refused : {A : Type 0} {r : Refusal} {a : A} → refused r ≡ done a → ⊥

@@ -10,8 +10,8 @@ use Rattle.words.proofs.Words.{test}
 use Rattle.clock.specs.declared.stamp.Timestamp.{Timestamp}
 use Rattle.clock.specs.Entries.{get, put}
 use Rattle.row.specs.Rows.{Row}
-use Rattle.log.specs.Store.{Mark, Store}
-use Rattle.log.specs.Insertion.{raise, insert}
+use Rattle.replicated_log.specs.Store.{Mark, Store}
+use Rattle.replicated_log.specs.Insertion.{raise, insert}
 use Rattle.merging.specs.Merging.{Admitted, settle, commit}
 use Rattle.merging.specs.Offers.{Accepted}
 use Rattle.merging.proofs.Traces.{merge_went}

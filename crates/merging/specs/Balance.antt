@@ -5,8 +5,8 @@ use Rattle.words.specs.Names.{Time}
 use Rattle.error.specs.Answer.{done}
 use Rattle.clock.specs.declared.hybrid.HybridClock.{HybridClock}
 use Rattle.row.specs.Reading.{BatchRow}
-use Rattle.log.specs.Store.{Store}
-use Rattle.log.specs.Areas.{Areas, read_store}
+use Rattle.replicated_log.specs.Store.{Store}
+use Rattle.replicated_log.specs.Areas.{Areas, read_store}
 use Rattle.merging.specs.Batch.{Limits, read_batch}
 use Rattle.merging.specs.Merging.{Report, Merged, merge}
 use Rattle.merging.specs.Calls.{BatchCall}

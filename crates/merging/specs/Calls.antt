@@ -9,8 +9,8 @@ use Rattle.words.specs.Areas.{put_at}
 use Rattle.error.specs.declared.Refusal.TheVariants.{OverCapacity, ShortArea}
 use Rattle.error.specs.Answer.{Answer, done, refused, nothing, and_then, unless, Ends, ends}
 use Rattle.clock.specs.declared.stamp.Timestamp.{Timestamp}
-use Rattle.log.specs.Store.{MaybeStamp, Store}
-use Rattle.log.specs.Areas.{Areas, capacity, read_store, write_store, leave}
+use Rattle.replicated_log.specs.Store.{MaybeStamp, Store}
+use Rattle.replicated_log.specs.Areas.{Areas, capacity, read_store, write_store, leave}
 use Rattle.merging.specs.Batch.{Limits, limits_ok, read_batch}
 use Rattle.merging.specs.Merging.{above_floor, Report, Merged, merge}
 

@@ -6,7 +6,7 @@ use Rattle.clock.specs.declared.stamp.Timestamp.{Timestamp}
 use Rattle.clock.specs.declared.hybrid.HybridClock.{HybridClock}
 use Rattle.clock.specs.Hybrid.{update_call}
 use Rattle.row.specs.Reading.{BatchRow}
-use Rattle.log.specs.Areas.{Areas}
+use Rattle.replicated_log.specs.Areas.{Areas}
 use Rattle.merging.specs.Batch.{read_batch}
 use Rattle.merging.specs.Merging.{Report}
 use Rattle.merging.specs.Calls.{BatchCall, Lent, batch_call}

@@ -7,8 +7,8 @@ use Rattle.clock.specs.declared.hybrid.HybridClock.{HybridClock}
 use Rattle.clock.specs.Entries.{get}
 use Rattle.row.specs.Rows.{Row}
 use Rattle.row.specs.Reading.{BatchRow}
-use Rattle.log.specs.Store.{Store}
-use Rattle.log.specs.Areas.{Areas, rows_of, capacity, read_store}
+use Rattle.replicated_log.specs.Store.{Store}
+use Rattle.replicated_log.specs.Areas.{Areas, rows_of, capacity, read_store}
 use Rattle.merging.specs.Batch.{limits_ok, read_batch, validate_all}
 use Rattle.merging.specs.Merging.{quotas}
 use Rattle.merging.specs.Calls.{BatchCall, room_for}

@@ -9,7 +9,7 @@ use Rattle.clock.specs.declared.hybrid.HybridClock.{HybridClock}
 use Rattle.clock.specs.Order.{stamp_less}
 use Rattle.clock.specs.Hybrid.{now_call, update_call}
 use Rattle.clock.specs.Monotone.{Event, History, run, with_remote}
-use Rattle.log.specs.Areas.{Areas}
+use Rattle.replicated_log.specs.Areas.{Areas}
 use Rattle.merging.specs.Batch.{read_batch}
 use Rattle.merging.specs.Calls.{BatchCall}
 use Rattle.merging.specs.Delta.{fold, stamps_read, DeltaReport, delta_call}

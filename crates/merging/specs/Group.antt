@@ -14,8 +14,8 @@ use Rattle.codec.specs.Leb128.{shortest}
 use Rattle.codec.specs.Reading.{get_varint}
 use Rattle.row.specs.Rows.{Row, HeldRow}
 use Rattle.row.specs.Wire.{signed_bytes}
-use Rattle.log.specs.Store.{MaybeStamp, Store}
-use Rattle.log.specs.Areas.{Areas, areas, read_store, write_store}
+use Rattle.replicated_log.specs.Store.{MaybeStamp, Store}
+use Rattle.replicated_log.specs.Areas.{Areas, areas, read_store, write_store}
 use Rattle.merging.specs.Batch.{Limits}
 use Rattle.merging.specs.Delta.{DeltaReport, DeltaLeft, delta_call}
 

@@ -6,8 +6,8 @@ use Rattle.error.specs.Answer.{done}
 use Rattle.clock.specs.Entries.{get}
 use Rattle.row.specs.Rows.{HeldRow, work_less}
 use Rattle.row.specs.Reading.{BatchRow}
-use Rattle.log.specs.Store.{Store, rules}
-use Rattle.log.specs.Areas.{rows_of}
+use Rattle.replicated_log.specs.Store.{Store, rules}
+use Rattle.replicated_log.specs.Areas.{rows_of}
 use Rattle.merging.specs.Merging.{unexpired, Admitted, starting, admit_all, ready, first_is, first_ready, Drained, to_drain, logging, dropping, drain, settle}
 use Rattle.merging.specs.Offers.{Sorted}
 

@@ -7,9 +7,9 @@ use Rattle.error.specs.Answer.{done, refused, nothing}
 use Rattle.clock.specs.declared.stamp.Timestamp.{Timestamp}
 use Rattle.clock.specs.declared.hybrid.HybridClock.{HybridClock}
 use Rattle.row.specs.Rows.{Row}
-use Rattle.log.specs.Store.{Store}
-use Rattle.log.specs.Areas.{Areas, read_store, write_store}
-use Rattle.log.specs.Insertion.{insert}
+use Rattle.replicated_log.specs.Store.{Store}
+use Rattle.replicated_log.specs.Areas.{Areas, read_store, write_store}
+use Rattle.replicated_log.specs.Insertion.{insert}
 use Rattle.merging.specs.Calls.{BatchCall, set_floor_call}
 use Rattle.merging.specs.Delta.{DeltaLeft, delta_call}
 use Rattle.merging.specs.Desk.{PrepareCall, prepare_call, read_sealed, seal_call}

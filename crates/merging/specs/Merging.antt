@@ -12,10 +12,10 @@ use Rattle.clock.specs.Order.{stamp_less}
 use Rattle.clock.specs.Entries.{get, observe, dominates}
 use Rattle.row.specs.Rows.{Row, HeldRow, work_less}
 use Rattle.row.specs.Reading.{BatchRow}
-use Rattle.log.specs.Store.{MaybeStamp, Store, same_id, same_entries}
-use Rattle.log.specs.Areas.{rows_of}
+use Rattle.replicated_log.specs.Store.{MaybeStamp, Store, same_id, same_entries}
+use Rattle.replicated_log.specs.Areas.{rows_of}
 use Rattle.merging.specs.Batch.{Limits, validate_all}
-use Rattle.log.specs.Insertion.{insert_all, fits}
+use Rattle.replicated_log.specs.Insertion.{insert_all, fits}
 
 -- ---- 1. 01: "Held rows with arrival below time minus `max_pending_age_ms` (not below 0) expire."
 

@@ -12,8 +12,8 @@ use Rattle.clock.specs.Order.{stamp_less}
 use Rattle.clock.specs.Entries.{get}
 use Rattle.row.specs.Rows.{Row, work_less, stamp_ok}
 use Rattle.row.specs.Reading.{BatchRow}
-use Rattle.log.specs.Store.{Store}
-use Rattle.log.specs.Areas.{Areas, rows_of, read_store}
+use Rattle.replicated_log.specs.Store.{Store}
+use Rattle.replicated_log.specs.Areas.{Areas, rows_of, read_store}
 use Rattle.merging.specs.Batch.{read_batch}
 use Rattle.merging.specs.Calls.{BatchCall, set_floor_call}
 use Rattle.merging.specs.Delta.{delta_call}

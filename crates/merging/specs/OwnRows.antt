@@ -12,8 +12,8 @@ use Rattle.row.specs.Rows.{Row}
 use Rattle.row.specs.Reading.{read_part, read_closing, read_row}
 use Rattle.row.specs.Unsigned.{read_unsigned}
 use Rattle.row.specs.Wire.{unsigned_bytes}
-use Rattle.log.specs.Store.{Store}
-use Rattle.log.specs.Areas.{Areas, read_store}
+use Rattle.replicated_log.specs.Store.{Store}
+use Rattle.replicated_log.specs.Areas.{Areas, read_store}
 use Rattle.merging.specs.Desk.{PrepareCall, prepare_call, signed, read_sealed, seal_call}
 use Rattle.merging.specs.Offers.{Call, MayStand}
 

@@ -4,8 +4,8 @@ use Rattle.words.specs.Names.{Time}
 use Rattle.words.specs.Sizes.{most_authors}
 use Rattle.error.specs.Answer.{done, nothing}
 use Rattle.row.specs.Reading.{BatchRow}
-use Rattle.log.specs.Store.{Store}
-use Rattle.log.specs.Areas.{Areas, capacity, read_store}
+use Rattle.replicated_log.specs.Store.{Store}
+use Rattle.replicated_log.specs.Areas.{Areas, capacity, read_store}
 use Rattle.merging.specs.Batch.{Limits, limits_ok, read_batch, validate_all}
 use Rattle.merging.specs.Merging.{staying, Admitted, starting, admit_all, lines, quotas, Merged, commit, report, settle, merge}
 use Rattle.merging.specs.Calls.{BatchCall, room_for, batch_answer}

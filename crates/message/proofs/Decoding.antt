@@ -27,7 +27,7 @@ use Rattle.row.specs.Slots.{encode_slots}
 use Rattle.row.specs.Inside.RowParts.{fault_of}
 use Rattle.row.specs.declared.Reading.{Reading}
 use Rattle.row.specs.declared.Reading.TheVariants.{Read, Refused}
-use Rattle.log.specs.Areas.{logged_rows}
+use Rattle.replicated_log.specs.Areas.{logged_rows}
 use Rattle.message.specs.Messages.{Message, hello, delta, ack, ping, pong}
 use Rattle.message.specs.Reading.{get_rows, read_message, read_frame}
 use Rattle.message.specs.Calls.{row_count, message_call, clock_left, rows_left, kind_of, message_answer, ReadsMessage, frame_call, ReadsFrame}

@@ -21,10 +21,10 @@ use Rattle.row.specs.Inside.SlotParts.{held_of}
 use Rattle.row.specs.Inside.WireLengths.{signed_len}
 use Rattle.row.specs.declared.Held.{Held}
 use Rattle.row.proofs.WireLengths.{length_signed}
-use Rattle.log.specs.Areas.{rows_of}
-use Rattle.log.specs.Calls.{slots_ok}
-use Rattle.log.specs.Inside.StoreChanges.{Parts, rows_in}
-use Rattle.log.proofs.Calls.Restoration.{rows_from, rows_next, rows_split, length_rows_in}
+use Rattle.replicated_log.specs.Areas.{rows_of}
+use Rattle.replicated_log.specs.Calls.{slots_ok}
+use Rattle.replicated_log.specs.Inside.StoreChanges.{Parts, rows_in}
+use Rattle.replicated_log.proofs.Calls.Restoration.{rows_from, rows_next, rows_split, length_rows_in}
 use Rattle.message.specs.Messages.{delta, rows_bytes, message_bytes}
 use Rattle.message.specs.Calls.{lent_rows, encode_delta}
 use Rattle.message.proofs.TaggedWrites.{tag_room, behind_room, tagged}

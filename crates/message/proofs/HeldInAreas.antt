@@ -22,12 +22,12 @@ use Rattle.row.specs.Rows.{Row, logged, row_ok}
 use Rattle.row.specs.Slots.{encode_held, encode_slots, slot_at, slots_at, logged_slot_ok}
 use Rattle.row.proofs.CanonicalSlot.{length_held, logged_encode}
 use Rattle.row.proofs.SlotTable.{slots_there}
-use Rattle.log.specs.Store.{clock_ok}
-use Rattle.log.specs.Areas.{logged_rows}
-use Rattle.log.specs.Calls.{read_clock, slots_ok}
-use Rattle.log.proofs.Store.Rules.{logged_ok, rows_logged_lem, length_logged, all_logged}
-use Rattle.log.proofs.Store.HeadBytes.{length_clock, clock_there}
-use Rattle.log.proofs.Logging.LogSlots.{length_rows}
+use Rattle.replicated_log.specs.Store.{clock_ok}
+use Rattle.replicated_log.specs.Areas.{logged_rows}
+use Rattle.replicated_log.specs.Calls.{read_clock, slots_ok}
+use Rattle.replicated_log.proofs.Store.Rules.{logged_ok, rows_logged_lem, length_logged, all_logged}
+use Rattle.replicated_log.proofs.Store.HeadBytes.{length_clock, clock_there}
+use Rattle.replicated_log.proofs.Logging.LogSlots.{length_rows}
 use Rattle.message.specs.Messages.{message_ok}
 use Rattle.message.specs.Calls.{lent_rows}
 use Rattle.message.specs.RoundTrip.{ClockHeld, RowsHeld}

@@ -27,7 +27,7 @@ use Rattle.row.proofs.WireLengths.{length_signed}
 use Rattle.row.proofs.CanonicalSlot.{HeldGood}
 use Rattle.row.proofs.RowBounds.{row_good}
 use Rattle.row.proofs.RoundTrip.{get_head_there}
-use Rattle.log.specs.Store.{clock_ok}
+use Rattle.replicated_log.specs.Store.{clock_ok}
 use Rattle.message.specs.Messages.{Message, hello, delta, ack, ping, pong, message_ok, rows_bytes, message_bytes}
 use Rattle.message.specs.Reading.{count_within, bytes_within, get_pair, get_pairs, get_clock, get_signed, get_rows, get_body, read_message, read_frame}
 use Rattle.message.specs.Calls.{row_count, message_call}

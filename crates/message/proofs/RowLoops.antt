@@ -19,7 +19,7 @@ use Rattle.row.specs.declared.Held.{Held}
 use Rattle.row.specs.declared.Reading.{Reading}
 use Rattle.row.specs.declared.Reading.TheVariants.{Read, Refused}
 use Rattle.row.proofs.Operations.{fits_length, slot_put}
-use Rattle.log.specs.Areas.{logged_rows}
+use Rattle.replicated_log.specs.Areas.{logged_rows}
 use Rattle.message.specs.Reading.{get_signed, get_rows}
 use Rattle.message.specs.Inside.ReaderParts.{checked, Readable, rows_in}
 

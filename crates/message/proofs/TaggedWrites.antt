@@ -24,7 +24,7 @@ use Rattle.row.specs.Inside.WireLengths.{varint_len, pairs_len}
 use Rattle.row.proofs.DepsPairs.{length_pairs}
 use Rattle.row.proofs.WireLengths.{length_deps_bytes}
 use Rattle.row.proofs.SlotWrites.{found_room, put_all, put_none}
-use Rattle.log.specs.Calls.{read_clock}
+use Rattle.replicated_log.specs.Calls.{read_clock}
 use Rattle.message.specs.Messages.{hello, ack, message_bytes}
 use Rattle.message.specs.Calls.{write_message, encode_hello, encode_ack, encode_ping, encode_pong}
 use Rattle.message.specs.Inside.WriterParts.{write_clock, encode_clock}

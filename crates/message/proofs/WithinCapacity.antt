@@ -23,7 +23,7 @@ use Rattle.row.specs.Reading.{get_head}
 use Rattle.row.proofs.DepsPairs.{DepsOk, deps_rising, deps_words}
 use Rattle.row.proofs.DepsPairs.DepsOk.{none, more}
 use Rattle.row.proofs.ReadRows.{get_head_got, row_built}
-use Rattle.log.specs.Store.{clock_ok}
+use Rattle.replicated_log.specs.Store.{clock_ok}
 use Rattle.message.specs.Messages.{Message, hello, delta, ack, ping, pong, message_ok}
 use Rattle.message.specs.Reading.{count_within, bytes_within, get_pair, get_pairs, get_clock, get_signed, get_rows, message_by, get_body, read_message, max_deps, max_ops}
 use Rattle.message.specs.RoundTrip.{ReadWithin, ReadAgain}

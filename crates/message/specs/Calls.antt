@@ -10,8 +10,8 @@ use Rattle.clock.specs.Area.{clock_bytes}
 use Rattle.codec.specs.Writing.{write_call}
 use Rattle.row.specs.Rows.{Row}
 use Rattle.row.specs.Slots.{encode_slots, slots_at}
-use Rattle.log.specs.Areas.{logged_rows, rows_of}
-use Rattle.log.specs.Calls.{read_clock, slots_ok}
+use Rattle.replicated_log.specs.Areas.{logged_rows, rows_of}
+use Rattle.replicated_log.specs.Calls.{read_clock, slots_ok}
 use Rattle.message.specs.Messages.{Message, hello, delta, ack, ping, pong, message_bytes}
 use Rattle.message.specs.Reading.{read_message, Frame, read_frame}
 use Rattle.message.specs.declared.Kind.{Kind}

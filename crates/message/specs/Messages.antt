@@ -6,7 +6,7 @@ use Rattle.words.specs.Lists.{all}
 use Rattle.codec.specs.Leb128.{shortest}
 use Rattle.row.specs.Rows.{Row, row_ok}
 use Rattle.row.specs.Wire.{deps_bytes, signed_bytes}
-use Rattle.log.specs.Store.{clock_ok}
+use Rattle.replicated_log.specs.Store.{clock_ok}
 
 -- 02: "Hello, Delta, Ack, Ping and Pong": the Rust's Message without the snapshots
 pub data Message : Type 0 where

@@ -8,8 +8,8 @@ use Rattle.error.specs.Answer.{done}
 use Rattle.codec.specs.Reading.{part_of}
 use Rattle.codec.specs.Envelopes.{max_signature, Envelope, envelope}
 use Rattle.row.specs.Rows.{Row}
-use Rattle.log.specs.Store.{clock_ok}
-use Rattle.log.specs.Calls.{read_clock}
+use Rattle.replicated_log.specs.Store.{clock_ok}
+use Rattle.replicated_log.specs.Calls.{read_clock}
 use Rattle.message.specs.Messages.{Message, hello, delta, ack, message_ok, message_bytes}
 use Rattle.message.specs.Reading.{read_message, read_frame}
 use Rattle.message.specs.Calls.{lent_rows, row_count, message_call, clock_left, rows_left}

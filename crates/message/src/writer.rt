@@ -6,7 +6,7 @@ ghost use Rattle.codec.specs.Writing.{write_call, written_of};
 ghost use Rattle.codec.specs.Inside.EnvelopeParts.{Stored};
 ghost use Rattle.clock.specs.Vector.{entries, sound};
 ghost use Rattle.row.specs.Wire.{deps_bytes};
-ghost use Rattle.log.specs.Inside.StoreChanges.{Parts, rows_in};
+ghost use Rattle.replicated_log.specs.Inside.StoreChanges.{Parts, rows_in};
 ghost use Rattle.message.specs.Messages.{delta, rows_bytes, message_bytes};
 ghost use Rattle.message.specs.Calls.{encode_hello, encode_ack, encode_ping, encode_pong, encode_delta};
 ghost use Rattle.message.specs.Inside.WriterParts.{encode_clock};
@@ -16,7 +16,7 @@ use clock::vector::VectorClock;
 use codec::raw::{past, store_varint};
 use codec::{Written, varint_len};
 use error::Refusal;
-use log::raw::parts_ok;
+use replicated_log::raw::parts_ok;
 use row::raw::{clock_len, read_slot, signed_len, store_clock, store_signed_op};
 
 const TAG_HELLO: u8 = 0;

@@ -11,8 +11,8 @@ use Rattle.error.specs.Answer.{Answer, done, refused, and_then, unless, nothing,
 use Rattle.clock.specs.declared.vector.VectorClock.{VectorClock}
 use Rattle.clock.specs.Vector.{sound, entries, clock_of, merge_call, outcome_of}
 use Rattle.row.specs.Rows.{Row}
-use Rattle.log.specs.Areas.{Areas, read_store}
-use Rattle.log.specs.Calls.{unseen}
+use Rattle.replicated_log.specs.Areas.{Areas, read_store}
+use Rattle.replicated_log.specs.Calls.{unseen}
 use Rattle.peer.specs.declared.PeerState.{PeerState}
 use Rattle.peer.specs.declared.PeerState.TheVariants.{Connecting, Syncing, Disconnected}
 use Rattle.peer.specs.declared.Pings.{Pings}

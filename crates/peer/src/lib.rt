@@ -8,14 +8,14 @@ pub mod raw; // a peer in a lent area
 
 ghost use Rattle.std.specs.Prelude.{◌≡◌, ◌≤◌, ◌<◌};
 ghost use Rattle.clock.specs.Vector.{number_answer};
-ghost use Rattle.log.specs.Areas.{areas};
+ghost use Rattle.replicated_log.specs.Areas.{areas};
 ghost use Rattle.peer.specs.Peers.{nonces, push, with_pings, with_clock, with_times, rebased, take_pong, answer_of, new_peer, peer_sound, started_call, lost_call, absorb_call, replace_call, record_ping_call, take_pong_call, rebase_call, pending_ops_call};
 ghost use Rattle.peer.specs.Inside.NoncePlaces.{without, having_pings};
 ghost use Rattle.error.specs.Answer.{done, refused, nothing, ends};
 
 use clock::vector::{NumberAnswer, Outcome, VectorClock};
 use error::Refusal;
-use log::check::check_store;
+use replicated_log::check::check_store;
 use stubs::ActorId;
 
 // Connection status of a peer.

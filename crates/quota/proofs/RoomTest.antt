@@ -22,22 +22,22 @@ use Rattle.clock.proofs.RisingAuthors.{rises_of, rising_observe}
 use Rattle.clock.proofs.EntryLaws.{observe_longer}
 use Rattle.clock.proofs.ClockCalls.{grown_done, grown_refused}
 use Rattle.row.specs.Rows.{Row}
-use Rattle.log.specs.Store.{Mark, Store, marks_rise}
-use Rattle.log.specs.Areas.{capacity, marks_at, rows_of}
-use Rattle.log.specs.Answers.{unit_of}
-use Rattle.log.specs.Inside.StoreTests.{marks_in}
-use Rattle.log.specs.Inside.StoreChanges.{Stored, Sound, numbered, run}
-use Rattle.log.proofs.Store.Rules.{kept, length_rows}
-use Rattle.log.proofs.Logging.LoggedRow.{stored_count, stored_marks}
-use Rattle.log.proofs.Calls.Changes.{fits_full, fits_authors, fits_done, sound_marks}
-use Rattle.log.proofs.Calls.Restoration.{authors, run_authors, all_length}
+use Rattle.replicated_log.specs.Store.{Mark, Store, marks_rise}
+use Rattle.replicated_log.specs.Areas.{capacity, marks_at, rows_of}
+use Rattle.replicated_log.specs.Answers.{unit_of}
+use Rattle.replicated_log.specs.Inside.StoreTests.{marks_in}
+use Rattle.replicated_log.specs.Inside.StoreChanges.{Stored, Sound, numbered, run}
+use Rattle.replicated_log.proofs.Store.Rules.{kept, length_rows}
+use Rattle.replicated_log.proofs.Logging.LoggedRow.{stored_count, stored_marks}
+use Rattle.replicated_log.proofs.Calls.Changes.{fits_full, fits_authors, fits_done, sound_marks}
+use Rattle.replicated_log.proofs.Calls.Restoration.{authors, run_authors, all_length}
 use Rattle.working.specs.Inside.References.{work_rows}
 use Rattle.working.specs.Inside.Looks.{ref_row}
 use Rattle.working.proofs.ScratchColumns.{length_cells}
 use Rattle.quota.specs.Inside.Authors.{marked, Marked}
 use Rattle.quota.specs.Inside.Room.{rows_logged, Rooms}
 use Rattle.quota.proofs.AuthorCounts.{left, left_all, left_next, left_none, length_work}
-use Rattle.log.specs.Insertion.{insert_all}
+use Rattle.replicated_log.specs.Insertion.{insert_all}
 
 -- ---- the watermarks as a clock
 pairs_marked : (s ks ns : List ℕ) (at n : ℕ) → length ks ≡ n → length ns ≡ n → ((k : ℕ) → k < n → get_or ks k 0 ≡ get64 s (at + 32 * k))

@@ -3,7 +3,7 @@ ghost use Rattle.std.specs.Prelude.{◌≡◌, true, ℕ, ◌*◌, ◌≤◌, lt
 ghost use Rattle.clock.specs.Vector.{outcome_of};
 ghost use Rattle.batch.specs.Settings.{limits_of};
 ghost use Rattle.merging.specs.Merging.{payload_bytes, quotas};
-ghost use Rattle.log.specs.Inside.StoreChanges.{Sound};
+ghost use Rattle.replicated_log.specs.Inside.StoreChanges.{Sound};
 ghost use Rattle.working.specs.Inside.References.{ref_ok, refs_ok, work_rows};
 ghost use Rattle.working.specs.Inside.Looks.{ref_row};
 ghost use Rattle.working.specs.Inside.Scratch.{Working};
@@ -15,7 +15,7 @@ use crate::room::marks_fit;
 use batch::MergeLimits;
 use clock::vector::Outcome;
 use error::Refusal;
-use log::check::capacity;
+use replicated_log::check::capacity;
 use row::reader::read_row;
 use stubs::ActorId;
 use words::raw::get_word;

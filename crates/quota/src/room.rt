@@ -1,8 +1,8 @@
 // The authors that the watermarks would have with those of the logged rows.
 ghost use Rattle.std.specs.Prelude.{◌≡◌, true, ◌*◌, ◌≤◌, leb, length};
 ghost use Rattle.clock.specs.Vector.{entries, sound};
-ghost use Rattle.log.specs.Inside.StoreTests.{marks_in};
-ghost use Rattle.log.specs.Inside.StoreChanges.{run};
+ghost use Rattle.replicated_log.specs.Inside.StoreTests.{marks_in};
+ghost use Rattle.replicated_log.specs.Inside.StoreChanges.{run};
 ghost use Rattle.working.specs.Inside.References.{refs_ok};
 ghost use Rattle.quota.specs.Inside.Authors.{marked, Marked};
 ghost use Rattle.quota.specs.Inside.Room.{rows_logged};

@@ -14,14 +14,14 @@ use Rattle.error.specs.Answer.{Answer, done, refused, and_then, unless, ends}
 use Rattle.clock.specs.declared.vector.VectorClock.{VectorClock}
 use Rattle.clock.specs.Vector.{entries, sound}
 use Rattle.clock.specs.Area.{clock_at}
-use Rattle.log.specs.Store.{Store}
-use Rattle.log.specs.Areas.{Areas, read_store, decode_store}
-use Rattle.log.specs.Calls.{read_clock, log_len_call}
-use Rattle.log.proofs.Store.Encoding.{Reads, reads, decode_count, capacity_most}
-use Rattle.log.proofs.Calls.Queries.{Passed, read_passed, log_room}
+use Rattle.replicated_log.specs.Store.{Store}
+use Rattle.replicated_log.specs.Areas.{Areas, read_store, decode_store}
+use Rattle.replicated_log.specs.Calls.{read_clock, log_len_call}
+use Rattle.replicated_log.proofs.Store.Encoding.{Reads, reads, decode_count, capacity_most}
+use Rattle.replicated_log.proofs.Calls.Queries.{Passed, read_passed, log_room}
 use Rattle.sync.specs.Delta.{over_peer, delta, delta_rows, at_least_one, chunks, chunk_ops, list_call, delta_call, chunk_call}
 use Rattle.sync.specs.Inside.DeltaSteps.{count_of, count_call, Ready, Puts}
-use Rattle.log.specs.Inside.StoreChanges.{rows_in}
+use Rattle.replicated_log.specs.Inside.StoreChanges.{rows_in}
 
 -- ---- answers, taken apart
 pub record Went {A B : Type 0} (x : Answer A) (f : A → Answer B) (v : B) : Type 0 where

@@ -13,7 +13,7 @@ use Rattle.row.specs.Rows.{Row}
 use Rattle.sync.specs.Delta.{delta, delta_rows, row_size, at_least_one, chunks, chunk_ops}
 use Rattle.sync.specs.Inside.DeltaSteps.{starts_next}
 use Rattle.sync.proofs.DeltaLoops.{next_some, chunks_next, chunks_same, chunks_none, chunks_last}
-use Rattle.log.specs.Calls.{unseen}
+use Rattle.replicated_log.specs.Calls.{unseen}
 use Rattle.sync.specs.Chunks.{Rising, DeltaRising, sizes, total, Chunked, ChunksAre, ChunksTotal, none, more, no_chunks, next_chunk}
 
 rising_from : {lo hi : ℕ} {ps : List ℕ} (m : ℕ) → m ≤ lo → Rising lo hi ps → Rising m hi ps

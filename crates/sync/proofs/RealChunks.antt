@@ -21,12 +21,12 @@ use Rattle.codec.specs.Writing.{write_call}
 use Rattle.codec.specs.Envelopes.{envelope}
 use Rattle.codec.proofs.WriterLaws.{length_envelope}
 use Rattle.row.specs.Rows.{Row, row_ok}
-use Rattle.log.specs.Store.{Store}
-use Rattle.log.specs.Areas.{Areas, read_store}
-use Rattle.log.specs.Calls.{read_clock, unseen}
-use Rattle.log.proofs.Store.Encoding.{reads}
-use Rattle.log.proofs.Store.Rules.{all_nil, all_cons, all_head, all_tail}
-use Rattle.log.proofs.Calls.Queries.{read_passed}
+use Rattle.replicated_log.specs.Store.{Store}
+use Rattle.replicated_log.specs.Areas.{Areas, read_store}
+use Rattle.replicated_log.specs.Calls.{read_clock, unseen}
+use Rattle.replicated_log.proofs.Store.Encoding.{reads}
+use Rattle.replicated_log.proofs.Store.Rules.{all_nil, all_cons, all_head, all_tail}
+use Rattle.replicated_log.proofs.Calls.Queries.{read_passed}
 use Rattle.message.specs.Messages.{delta, message_ok, message_bytes}
 use Rattle.message.specs.Calls.{encode_delta}
 use Rattle.sync.specs.Delta.{delta_rows, chunk_ops, list, over_peer, list_call, chunk_call}

@@ -16,8 +16,8 @@ use Rattle.clock.specs.declared.vector.VectorClock.{VectorClock}
 use Rattle.clock.specs.Vector.{entries}
 use Rattle.clock.specs.Area.{clock_at}
 use Rattle.row.specs.Rows.{Row}
-use Rattle.log.specs.Areas.{Areas, decode_store}
-use Rattle.log.specs.Inside.StoreChanges.{rows_in}
+use Rattle.replicated_log.specs.Areas.{Areas, decode_store}
+use Rattle.replicated_log.specs.Inside.StoreChanges.{rows_in}
 use Rattle.sync.specs.Delta.{delta_rows, at_least_one, chunks, chunk_ops}
 use Rattle.sync.specs.Chunks.{sizes}
 use Rattle.sync.specs.Sizes.{cut, delta_sizes, numbers, fitting, sizes_answer, sizes_call}

@@ -23,10 +23,10 @@ use Rattle.row.specs.Inside.SlotParts.{held_of}
 use Rattle.row.specs.Inside.WireLengths.{unsigned_len, signed_len}
 use Rattle.row.specs.declared.Held.{Held}
 use Rattle.row.proofs.WireLengths.{length_signed}
-use Rattle.log.specs.Calls.{unseen}
-use Rattle.log.specs.Inside.StoreTests.{row_at}
-use Rattle.log.specs.Inside.StoreChanges.{rows_in}
-use Rattle.log.proofs.Calls.Restoration.{length_rows_in}
+use Rattle.replicated_log.specs.Calls.{unseen}
+use Rattle.replicated_log.specs.Inside.StoreTests.{row_at}
+use Rattle.replicated_log.specs.Inside.StoreChanges.{rows_in}
+use Rattle.replicated_log.proofs.Calls.Restoration.{length_rows_in}
 use Rattle.message.specs.Messages.{delta, rows_bytes, message_bytes}
 use Rattle.message.proofs.DeltaWrites.{bytes_append}
 use Rattle.sync.specs.Delta.{delta_rows, row_size, chunks}

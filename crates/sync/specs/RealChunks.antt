@@ -9,8 +9,8 @@ use Rattle.error.specs.Answer.{done, ends}
 use Rattle.codec.specs.Writing.{write_call}
 use Rattle.codec.specs.Envelopes.{envelope}
 use Rattle.row.specs.Rows.{Row}
-use Rattle.log.specs.Store.{Store}
-use Rattle.log.specs.Areas.{Areas, read_store}
+use Rattle.replicated_log.specs.Store.{Store}
+use Rattle.replicated_log.specs.Areas.{Areas, read_store}
 use Rattle.message.specs.Messages as message
 use Rattle.message.specs.Messages.{message_ok, message_bytes}
 use Rattle.message.specs.Calls.{lent_rows, encode_delta}

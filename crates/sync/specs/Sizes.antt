@@ -8,7 +8,7 @@ use Rattle.error.specs.declared.Refusal.TheVariants.{ShortArea, OverCapacity}
 use Rattle.error.specs.Answer.{Answer, done, refused, unless, Ends, ends}
 use Rattle.codec.specs.Envelopes.{max_signature, envelope}
 use Rattle.row.specs.Rows.{Row}
-use Rattle.log.specs.Areas.{Areas}
+use Rattle.replicated_log.specs.Areas.{Areas}
 use Rattle.message.specs.Messages as message
 use Rattle.message.specs.Messages.{message_bytes}
 use Rattle.sync.specs.Delta.{delta_rows, chunk_ops, over_peer}

@@ -3,11 +3,11 @@ ghost use Rattle.std.specs.Prelude.{◌≡◌, true, ◌+◌, ◌*◌, ◌≤◌
 ghost use Rattle.clock.specs.Vector.{entries};
 ghost use Rattle.codec.specs.Inside.EnvelopeParts.{sized_length};
 ghost use Rattle.row.specs.Slots.{slot_at, slot_ok};
-ghost use Rattle.log.specs.Inside.StoreTests.{row_at};
+ghost use Rattle.replicated_log.specs.Inside.StoreTests.{row_at};
 ghost use Rattle.sync.specs.Delta.{delta_rows, row_size, at_least_one, chunks};
 ghost use Rattle.sync.specs.Inside.DeltaSteps.{Ready, Puts, starts_next};
 ghost use Rattle.sync.specs.Inside.SizeSteps.{RowSizes};
-ghost use Rattle.log.specs.Inside.StoreChanges.{rows_in};
+ghost use Rattle.replicated_log.specs.Inside.StoreChanges.{rows_in};
 
 use crate::scan::is_missing;
 use clock::vector::VectorClock;

@@ -8,7 +8,7 @@ mod sizes; // the rows and the bytes of each chunk
 ghost use Rattle.std.specs.Prelude.{◌≡◌};
 ghost use Rattle.error.specs.Answer.{ends};
 ghost use Rattle.clock.specs.Vector.{number_answer};
-ghost use Rattle.log.specs.Areas.{areas};
+ghost use Rattle.replicated_log.specs.Areas.{areas};
 ghost use Rattle.sync.specs.Delta.{delta_call, chunk_call};
 ghost use Rattle.sync.specs.Sizes.{sizes_call};
 

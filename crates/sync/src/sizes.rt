@@ -4,7 +4,7 @@ ghost use Rattle.words.specs.Be.{bes};
 ghost use Rattle.words.specs.Areas.{put_at};
 ghost use Rattle.clock.specs.Vector.{entries};
 ghost use Rattle.codec.specs.Inside.EnvelopeParts.{envelope_length};
-ghost use Rattle.log.specs.Inside.StoreChanges.{rows_in};
+ghost use Rattle.replicated_log.specs.Inside.StoreChanges.{rows_in};
 ghost use Rattle.sync.specs.Delta.{delta_rows, chunks};
 ghost use Rattle.sync.specs.Inside.DeltaSteps.{Ready, Puts};
 ghost use Rattle.sync.specs.Inside.SizeSteps.{delta_length, to_come};

@@ -17,7 +17,7 @@ use Rattle.row.specs.Rows.{work_key}
 use Rattle.row.specs.Values.{deps_of, row_of}
 use Rattle.row.specs.declared.Deps.{Deps}
 use Rattle.row.specs.declared.StampedOperation.{StampedOperation}
-use Rattle.log.specs.Store.{same_entries}
+use Rattle.replicated_log.specs.Store.{same_entries}
 use Rattle.merging.specs.Merging.{same_stamp, same_content}
 use Rattle.working.specs.Inside.Looks.{ref_row, KeyOf, numbers_of, id_ref, before_ref}
 use Rattle.working.specs.declared.looks.Key.{Key}

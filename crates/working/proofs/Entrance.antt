@@ -21,7 +21,7 @@ use Rattle.row.proofs.ReadRows.{HeadGot, head_got}
 use Rattle.row.specs.declared.Reading.{Reading}
 use Rattle.row.specs.declared.Reading.TheVariants as ended
 use Rattle.row.specs.declared.RowRead.{RowRead}
-use Rattle.log.specs.Store.{same_id}
+use Rattle.replicated_log.specs.Store.{same_id}
 use Rattle.merging.specs.Merging.{same_content, Known, absent, present, look, enter, arrived, Admitted, duplicate, when_known, admit}
 use Rattle.working.specs.Inside.References.{is_read, arrived_by, ref_ok, work_row, work_rows}
 use Rattle.working.specs.Inside.Columns.{ins_at, PutIn}

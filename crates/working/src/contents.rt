@@ -1,7 +1,7 @@
 // Whether two rows agree by value.
 ghost use Rattle.std.specs.Prelude.{◌≡◌, true, ◌+◌, ◌≤◌, length, take, drop};
 ghost use Rattle.row.specs.Values.{deps_of, row_of, OpFits};
-ghost use Rattle.log.specs.Store.{same_entries};
+ghost use Rattle.replicated_log.specs.Store.{same_entries};
 ghost use Rattle.merging.specs.Merging.{same_stamp, same_content};
 ghost use Rattle.working.specs.Inside.References.{ref_ok};
 ghost use Rattle.working.specs.Inside.Looks.{ref_row};

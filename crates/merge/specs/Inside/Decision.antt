@@ -11,11 +11,11 @@ use Rattle.clock.specs.Vector.{entries, sound}
 use Rattle.clock.specs.Area.{clock_at}
 use Rattle.row.specs.Slots.{slot_at, slot_ok, slots_at}
 use Rattle.row.specs.Reading.{BatchRow}
-use Rattle.log.specs.Store.{Store}
-use Rattle.log.specs.Areas.{Areas, capacity, read_store, rows_of, floor_at, held_bytes}
-use Rattle.log.specs.Answers.{unit_of}
-use Rattle.log.specs.Inside.StoreTests.{HeadOk}
-use Rattle.log.specs.Inside.StoreChanges.{Stored, Sound, AllReady}
+use Rattle.replicated_log.specs.Store.{Store}
+use Rattle.replicated_log.specs.Areas.{Areas, capacity, read_store, rows_of, floor_at, held_bytes}
+use Rattle.replicated_log.specs.Answers.{unit_of}
+use Rattle.replicated_log.specs.Inside.StoreTests.{HeadOk}
+use Rattle.replicated_log.specs.Inside.StoreChanges.{Stored, Sound, AllReady}
 use Rattle.merging.specs.Batch.{Limits, limits_ok, read_rows, read_batch, validate_all}
 use Rattle.merging.specs.Merging.{unexpired, Admitted, starting, admit_all, Drained, drain, fate, lines, quotas, Merged, commit, merge}
 use Rattle.merging.specs.Calls.{BatchCall, room_for, batch_answer}
@@ -33,7 +33,7 @@ use Rattle.merge.specs.declared.deciding.Settled.TheVariants as settled
 use Rattle.merge.specs.declared.deciding.Decision.{Decision}
 use Rattle.merge.specs.declared.deciding.Decision.TheVariants as decision
 use Rattle.words.specs.Lists.{count_if}
-use Rattle.log.specs.Insertion.{insert_all, fits}
+use Rattle.replicated_log.specs.Insertion.{insert_all, fits}
 use Rattle.merging.specs.Inside.RowStarts.{StartsAt}
 
 -- what a call brings, from its parts

@@ -4,7 +4,7 @@ use Rattle.words.specs.Names.{Area, Position, Clock}
 use Rattle.error.specs.Answer.{Answer, done, refused, Ends, ends}
 use Rattle.codec.specs.Writing.{write_call}
 use Rattle.row.specs.Wire.{deps_bytes}
-use Rattle.log.specs.Calls.{read_clock}
+use Rattle.replicated_log.specs.Calls.{read_clock}
 
 -- a tag and a clock to the start of an output; a refusal leaves the output
 abbrev pub write_clock : Area → (tag : ℕ) → Answer Clock → Ends Position Area

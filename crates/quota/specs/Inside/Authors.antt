@@ -1,9 +1,9 @@
 -- Authors of rows as numbers, as the quota functions count them. Inside: need not be believed.
 use Rattle.std.specs.Prelude.{ℕ, ◌≡◌, true, List, [], ◌∷◌}
 use Rattle.words.specs.Names.{Author, Bytes, Area, Clock}
-use Rattle.log.specs.Store.{Mark, marks_rise}
-use Rattle.log.specs.Inside.StoreTests.{marks_in}
-use Rattle.log.specs.Inside.StoreChanges.{TableOk}
+use Rattle.replicated_log.specs.Store.{Mark, marks_rise}
+use Rattle.replicated_log.specs.Inside.StoreTests.{marks_in}
+use Rattle.replicated_log.specs.Inside.StoreChanges.{TableOk}
 use Rattle.merging.specs.Merging.{Over, nobody, author}
 use Rattle.working.specs.Inside.Looks.{ref_row}
 use Rattle.quota.specs.declared.authors.Over as code

@@ -4,13 +4,13 @@ use Rattle.words.specs.Sizes.{word_size}
 use Rattle.words.specs.Names.{Bytes, Area}
 use Rattle.error.specs.Answer.{Answer}
 use Rattle.row.specs.Rows.{Row}
-use Rattle.log.specs.Store.{Store}
-use Rattle.log.specs.Areas.{capacity, rows_of}
-use Rattle.log.specs.Answers.{unit_of}
-use Rattle.log.specs.Inside.StoreChanges.{Stored}
+use Rattle.replicated_log.specs.Store.{Store}
+use Rattle.replicated_log.specs.Areas.{capacity, rows_of}
+use Rattle.replicated_log.specs.Answers.{unit_of}
+use Rattle.replicated_log.specs.Inside.StoreChanges.{Stored}
 use Rattle.working.specs.Inside.References.{work_rows}
 use Rattle.words.specs.Be.{column}
-use Rattle.log.specs.Insertion.{insert_all, fits}
+use Rattle.replicated_log.specs.Insertion.{insert_all, fits}
 
 -- the rows of the first m logged references; rows do not depend on when they arrived
 unfoldable pub rows_logged : (held : Area) (batch : Bytes) (scratch : Area) (m : ℕ) → List Row

@@ -1,7 +1,7 @@
 use mathlib.Core.Path.{refl, sym, ◌∙◌, ap}
 use native.Mathlib.Omega.{arith}
 use Rattle.clock.specs.Vector.{number_answer}
-use Rattle.log.specs.Areas.{areas}
+use Rattle.replicated_log.specs.Areas.{areas}
 use Rattle.sync.specs.Delta.{delta_call}
 use Rattle.sync.proofs.CallTests.{counted, ready, list_refused, list_short, delta_done}
 use borrow.Author.Rules.{rules}

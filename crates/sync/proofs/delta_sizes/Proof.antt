@@ -1,7 +1,7 @@
 use mathlib.Core.Path.{refl, sym, ◌∙◌, ap}
 use native.Mathlib.Omega.{arith}
 use Rattle.clock.specs.Vector.{number_answer}
-use Rattle.log.specs.Areas.{areas}
+use Rattle.replicated_log.specs.Areas.{areas}
 use Rattle.sync.proofs.CallTests.{counted, ready}
 use Rattle.sync.proofs.SizeCalls.{sizes_capacity, sizes_refused, room_found, sizes_short, sizes_done}
 use borrow.Author.Rules.{rules}

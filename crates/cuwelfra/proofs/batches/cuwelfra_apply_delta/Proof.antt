@@ -1,4 +1,4 @@
-use Rattle.log.specs.Areas.{areas}
+use Rattle.replicated_log.specs.Areas.{areas}
 use Rattle.cuwelfra.proofs.BatchLaws.{delta_exported}
 use borrow.Author.Rules.{rules}
 use Rattle.cuwelfra.proofs.batches.cuwelfra_apply_delta.Statement.{statement}

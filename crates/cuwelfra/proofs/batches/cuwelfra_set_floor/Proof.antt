@@ -1,4 +1,4 @@
-use Rattle.log.specs.Areas.{areas}
+use Rattle.replicated_log.specs.Areas.{areas}
 use Rattle.cuwelfra.proofs.BatchLaws.{floor_told}
 use borrow.Author.Rules.{rules}
 use Rattle.cuwelfra.proofs.batches.cuwelfra_set_floor.Statement.{statement}

@@ -8,7 +8,7 @@ use Rattle.cuwelfra.proofs.changes.cuwelfra_compact.Reads as reads
 use Rattle.cuwelfra.proofs.changes.cuwelfra_compact.Lts as lts
 use Rattle.cuwelfra.proofs.hybrid.stamp_by.Reads as stamp_by_reads
 use Rattle.cuwelfra.proofs.vector.clock_told.Reads as clock_told_reads
-use Rattle.log.proofs.change.compact.Reads as compact_reads
+use Rattle.replicated_log.proofs.change.compact.Reads as compact_reads
 
 stamp_by_requires : tie.Need-stamp-by-requires
 stamp_by_requires c κs = search rules

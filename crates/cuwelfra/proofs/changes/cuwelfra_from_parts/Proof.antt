@@ -7,7 +7,7 @@ use Rattle.cuwelfra.proofs.changes.cuwelfra_from_parts.Tie as tie
 use Rattle.cuwelfra.proofs.changes.cuwelfra_from_parts.Reads as reads
 use Rattle.cuwelfra.proofs.changes.cuwelfra_from_parts.Lts as lts
 use Rattle.cuwelfra.proofs.store.outcome_told.Reads as outcome_told_reads
-use Rattle.log.proofs.change.from_parts.Reads as from_parts_reads
+use Rattle.replicated_log.proofs.change.from_parts.Reads as from_parts_reads
 
 from_parts_requires : tie.Need-from-parts-requires
 from_parts_requires c κs = search rules

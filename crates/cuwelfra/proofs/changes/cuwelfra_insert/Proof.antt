@@ -7,7 +7,7 @@ use Rattle.cuwelfra.proofs.changes.cuwelfra_insert.Tie as tie
 use Rattle.cuwelfra.proofs.changes.cuwelfra_insert.Reads as reads
 use Rattle.cuwelfra.proofs.changes.cuwelfra_insert.Lts as lts
 use Rattle.cuwelfra.proofs.store.outcome_told.Reads as outcome_told_reads
-use Rattle.log.proofs.change.insert.Reads as insert_reads
+use Rattle.replicated_log.proofs.change.insert.Reads as insert_reads
 
 insert_requires : tie.Need-insert-requires
 insert_requires c κs = search rules

@@ -6,7 +6,7 @@ use Rattle.cuwelfra.proofs.store.cuwelfra_can_serve.Tie as tie
 use Rattle.cuwelfra.proofs.store.cuwelfra_can_serve.Reads as reads
 use Rattle.cuwelfra.proofs.store.cuwelfra_can_serve.Lts as lts
 use Rattle.cuwelfra.proofs.vector.cover_told.Reads as cover_told_reads
-use Rattle.log.proofs.query.can_serve.Reads as can_serve_reads
+use Rattle.replicated_log.proofs.query.can_serve.Reads as can_serve_reads
 
 can_serve_requires : tie.Need-can-serve-requires
 can_serve_requires c κs = search rules

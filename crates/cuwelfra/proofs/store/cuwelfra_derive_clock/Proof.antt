@@ -8,7 +8,7 @@ use Rattle.cuwelfra.proofs.store.cuwelfra_derive_clock.Reads as reads
 use Rattle.cuwelfra.proofs.store.cuwelfra_derive_clock.Lts as lts
 use Rattle.cuwelfra.proofs.store.put_clock.Reads as put_clock_reads
 use Rattle.error.proofs.tell.Reads as tell_reads
-use Rattle.log.proofs.query.derive_clock.Reads as derive_clock_reads
+use Rattle.replicated_log.proofs.query.derive_clock.Reads as derive_clock_reads
 
 tell_requires : tie.Need-tell-requires
 tell_requires c κs = search rules

@@ -6,7 +6,7 @@ use Rattle.cuwelfra.proofs.store.cuwelfra_floor.Tie as tie
 use Rattle.cuwelfra.proofs.store.cuwelfra_floor.Reads as reads
 use Rattle.cuwelfra.proofs.store.cuwelfra_floor.Lts as lts
 use Rattle.cuwelfra.proofs.store.stamp_told.Reads as stamp_told_reads
-use Rattle.log.proofs.query.floor.Reads as floor_reads
+use Rattle.replicated_log.proofs.query.floor.Reads as floor_reads
 
 floor_requires : tie.Need-floor-requires
 floor_requires c κs = search rules

@@ -6,7 +6,7 @@ use Rattle.cuwelfra.proofs.store.cuwelfra_log_len.Tie as tie
 use Rattle.cuwelfra.proofs.store.cuwelfra_log_len.Reads as reads
 use Rattle.cuwelfra.proofs.store.cuwelfra_log_len.Lts as lts
 use Rattle.cuwelfra.proofs.vector.clock_told.Reads as clock_told_reads
-use Rattle.log.proofs.query.len.Reads as len_reads
+use Rattle.replicated_log.proofs.query.len.Reads as len_reads
 
 len_requires : tie.Need-len-requires
 len_requires c κs = search rules

@@ -1,8 +1,8 @@
 use mathlib.Core.Path.{◌≡◌, ◌∙◌, ap, sym, refl}
 use Rattle.cuwelfra.proofs.StoreLaws.{found_logged, found_held, found_absent, found_refused}
-use Rattle.log.specs.Areas.{areas}
-use Rattle.log.specs.Answers.{found_of}
-use Rattle.log.proofs.Calls.Queries.{logged_there, held_there}
+use Rattle.replicated_log.specs.Areas.{areas}
+use Rattle.replicated_log.specs.Answers.{found_of}
+use Rattle.replicated_log.proofs.Calls.Queries.{logged_there, held_there}
 use borrow.Author.Rules.{rules}
 use Rattle.cuwelfra.proofs.store.cuwelfra_lookup.Statement.{statement}
 use Rattle.cuwelfra.proofs.store.cuwelfra_lookup.Tie as tie
@@ -10,8 +10,8 @@ use Rattle.cuwelfra.proofs.store.cuwelfra_lookup.Reads as reads
 use Rattle.cuwelfra.proofs.store.cuwelfra_lookup.Lts as lts
 use Rattle.cuwelfra.proofs.store.found.Reads as found_reads
 use Rattle.error.proofs.tell.Reads as tell_reads
-use Rattle.log.proofs.lookup.find.Reads as find_reads
-use Rattle.log.proofs.raw.payload.Reads as payload_reads
+use Rattle.replicated_log.proofs.lookup.find.Reads as find_reads
+use Rattle.replicated_log.proofs.raw.payload.Reads as payload_reads
 
 find_requires : tie.Need-find-requires
 find_requires c κs = search rules

@@ -6,7 +6,7 @@ use Rattle.cuwelfra.proofs.store.cuwelfra_pending_len.Tie as tie
 use Rattle.cuwelfra.proofs.store.cuwelfra_pending_len.Reads as reads
 use Rattle.cuwelfra.proofs.store.cuwelfra_pending_len.Lts as lts
 use Rattle.cuwelfra.proofs.vector.clock_told.Reads as clock_told_reads
-use Rattle.log.proofs.query.pending_len.Reads as pending_len_reads
+use Rattle.replicated_log.proofs.query.pending_len.Reads as pending_len_reads
 
 pending_len_requires : tie.Need-pending-len-requires
 pending_len_requires c κs = search rules

@@ -6,7 +6,7 @@ use Rattle.cuwelfra.proofs.store.cuwelfra_store_check.Tie as tie
 use Rattle.cuwelfra.proofs.store.cuwelfra_store_check.Reads as reads
 use Rattle.cuwelfra.proofs.store.cuwelfra_store_check.Lts as lts
 use Rattle.cuwelfra.proofs.store.outcome_told.Reads as outcome_told_reads
-use Rattle.log.proofs.check.check_store.Reads as check_store_reads
+use Rattle.replicated_log.proofs.check.check_store.Reads as check_store_reads
 
 check_store_requires : tie.Need-check-store-requires
 check_store_requires c κs = search rules

@@ -6,7 +6,7 @@ use Rattle.cuwelfra.proofs.store.cuwelfra_watermark.Tie as tie
 use Rattle.cuwelfra.proofs.store.cuwelfra_watermark.Reads as reads
 use Rattle.cuwelfra.proofs.store.cuwelfra_watermark.Lts as lts
 use Rattle.cuwelfra.proofs.store.stamp_told.Reads as stamp_told_reads
-use Rattle.log.proofs.query.watermark.Reads as watermark_reads
+use Rattle.replicated_log.proofs.query.watermark.Reads as watermark_reads
 
 watermark_requires : tie.Need-watermark-requires
 watermark_requires c κs = search rules

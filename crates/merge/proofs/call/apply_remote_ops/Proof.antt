@@ -1,5 +1,5 @@
 use mathlib.Core.Path.{refl}
-use Rattle.log.specs.Areas.{areas}
+use Rattle.replicated_log.specs.Areas.{areas}
 use Rattle.merge.proofs.PartAnswers.{was_accepted, was_refused, starts_are_known, none_known}
 use Rattle.merge.proofs.CallAnswers.{commit_needs, batch-leaves, batch_refused}
 use borrow.Author.Rules.{rules}

@@ -1,4 +1,4 @@
-use Rattle.log.specs.Areas.{areas}
+use Rattle.replicated_log.specs.Areas.{areas}
 use Rattle.merge.proofs.PartAnswers.{was_ready, was_denied, begins, starts_known}
 use Rattle.merge.proofs.CallAnswers.{decides, refuses}
 use borrow.Author.Rules.{rules}

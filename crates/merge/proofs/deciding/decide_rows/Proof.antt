@@ -1,7 +1,7 @@
 use mathlib.Core.Path.{ap}
 use Prim.Native.Nat.{◌*◌}
 use Rattle.clock.specs.Vector.{outcome_of}
-use Rattle.log.specs.Areas.{areas}
+use Rattle.replicated_log.specs.Areas.{areas}
 use Rattle.merge.specs.Inside.Decision.{Merges}
 use Rattle.merge.proofs.PartAnswers.{were_rows, was_conflict}
 use Rattle.merge.proofs.Judgement.{used_is, oldest_is, opened_long, settle_needs, judge_needs, not_admitted, not_passed, accepts}

@@ -2,8 +2,8 @@ use mathlib.Core.Path.{sym, ◌∙◌, ap}
 use native.Mathlib.Omega.{arith}
 use borrow.Author.Tests.{not-true, not-false}
 use Rattle.clock.specs.Vector.{outcome_of}
-use Rattle.log.specs.Areas.{areas}
-use Rattle.log.proofs.Calls.Queries.{passed, stopped}
+use Rattle.replicated_log.specs.Areas.{areas}
+use Rattle.replicated_log.proofs.Calls.Queries.{passed, stopped}
 use Rattle.merge.proofs.Preparation.{no_limits, no_store, prepared_by_lem}
 use borrow.Author.Rules.{rules}
 use Rattle.merge.proofs.deciding.prepare.Statement.{statement}
@@ -11,7 +11,7 @@ use Rattle.merge.proofs.deciding.prepare.Tie as tie
 use Rattle.merge.proofs.deciding.prepare.Reads as reads
 use Rattle.merge.proofs.deciding.prepare.Lts as lts
 use Rattle.batch.proofs.settings.are_within.Reads as are_within_reads
-use Rattle.log.proofs.check.check_store.Reads as check_store_reads
+use Rattle.replicated_log.proofs.check.check_store.Reads as check_store_reads
 use Rattle.merge.proofs.deciding.take_in.Reads as take_in_reads
 use Rattle.words.proofs.raw.get_word.Reads as get_word_reads
 

@@ -1,4 +1,4 @@
-use Rattle.log.specs.Areas.{areas}
+use Rattle.replicated_log.specs.Areas.{areas}
 use Rattle.merge.proofs.JoinedCall.{rows_begin, delta_refused, delta_accepted}
 use borrow.Author.Rules.{rules}
 use Rattle.merge.proofs.delta.apply_delta.Statement.{statement}

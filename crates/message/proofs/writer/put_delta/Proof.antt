@@ -1,7 +1,7 @@
 use native.Mathlib.Omega.{arith}
 use Rattle.row.proofs.PartLengths.{number_few}
 use Rattle.row.proofs.SlotWrites.{found_room, put_all, put_none}
-use Rattle.log.specs.Inside.StoreChanges.{rows_in}
+use Rattle.replicated_log.specs.Inside.StoreChanges.{rows_in}
 use Rattle.message.specs.Messages.{delta, message_bytes}
 use Rattle.message.proofs.DeltaWrites.{delta_length_lem}
 use borrow.Author.Rules.{rules}

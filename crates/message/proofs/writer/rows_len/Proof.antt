@@ -1,6 +1,6 @@
 use borrow.Author.Rules.{rules}
 use Prim.Native.Nat.{◌-◌}
-use Rattle.log.proofs.Calls.Restoration.{part_ok}
+use Rattle.replicated_log.proofs.Calls.Restoration.{part_ok}
 use Rattle.message.proofs.DeltaWrites.{Counted, counted_none, counted_more, counted_all}
 use Rattle.message.proofs.writer.rows_len.Statement.{statement}
 use Rattle.message.proofs.writer.rows_len.Tie as tie

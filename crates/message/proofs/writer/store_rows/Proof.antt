@@ -1,6 +1,6 @@
 use borrow.Author.Rules.{rules}
 use Prim.Native.Nat.{◌-◌}
-use Rattle.log.proofs.Calls.Restoration.{part_ok}
+use Rattle.replicated_log.proofs.Calls.Restoration.{part_ok}
 use Rattle.message.proofs.DeltaWrites.{Going, start, row_room, again, all_stored}
 use Rattle.message.proofs.writer.store_rows.Statement.{statement}
 use Rattle.message.proofs.writer.store_rows.Tie as tie

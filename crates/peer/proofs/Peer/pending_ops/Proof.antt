@@ -2,10 +2,10 @@ use mathlib.Core.Path.{ap}
 use native.Mathlib.Omega.{arith}
 use Rattle.clock.specs.Vector.{outcome_of}
 use Rattle.peer.proofs.PendingCount.{pending_refused, pending_done}
-use Rattle.log.proofs.Calls.Queries.{Passed, passed, stopped}
-use Rattle.log.proofs.Store.Soundness.{log_slots}
-use Rattle.log.specs.Areas.{Areas, areas}
-use Rattle.log.proofs.Store.Encoding.{capacity_room}
+use Rattle.replicated_log.proofs.Calls.Queries.{Passed, passed, stopped}
+use Rattle.replicated_log.proofs.Store.Soundness.{log_slots}
+use Rattle.replicated_log.specs.Areas.{Areas, areas}
+use Rattle.replicated_log.proofs.Store.Encoding.{capacity_room}
 use borrow.Author.Rules.{rules}
 use Rattle.peer.proofs.Peer.pending_ops.Statement.{statement}
 use Rattle.peer.proofs.Peer.pending_ops.Tie as tie

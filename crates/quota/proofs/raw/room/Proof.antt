@@ -1,5 +1,5 @@
 use native.Mathlib.Omega.{arith}
-use Rattle.log.proofs.Calls.Changes.{sound_long}
+use Rattle.replicated_log.proofs.Calls.Changes.{sound_long}
 use Rattle.quota.proofs.RoomTest.{sound_count, sound_marked, room_full, room_clock, room_marks, room_done}
 use borrow.Author.Rules.{rules}
 use Rattle.quota.proofs.raw.room.Statement.{statement}

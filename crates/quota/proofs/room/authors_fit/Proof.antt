@@ -4,7 +4,7 @@ use mathlib.Core.Path.{◌∙◌, ap}
 use native.Mathlib.Omega.{arith}
 use Rattle.words.specs.Be.{get64}
 use Rattle.clock.specs.Vector.{changed_of, outcome_of}
-use Rattle.log.proofs.Calls.Restoration.{entries_few}
+use Rattle.replicated_log.proofs.Calls.Restoration.{entries_few}
 use Rattle.quota.proofs.AuthorCounts.{ref_at_lem}
 use Rattle.quota.proofs.RoomTest.{Running, run_start, run_turn, run_not, run_end}
 use Rattle.quota.proofs.room.authors_fit.Statement.{statement}
