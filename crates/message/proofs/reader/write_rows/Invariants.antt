@@ -1,0 +1,10 @@
+use borrow.Author.Rules.{rules}
+use Prim.Native.Nat.{◌-◌}
+use Rattle.message.proofs.RowLoops.{Writing, writing_none, writing_size, written_all, writing_goes_on, slot_room, writing_more}
+use Rattle.message.proofs.reader.write_rows.Given as goal
+
+abbrev pub invariant-loop-i : goal.invariant-loop-i
+invariant-loop-i l = Writing l.s l.at l.n l.initial.rows l.rows l.next l.i
+
+abbrev pub decreases-loop-i : goal.decreases-loop-i
+decreases-loop-i l = l.n - l.i

@@ -1,0 +1,6 @@
+use Rattle.message.proofs.TaggedWrites.{ping_written}
+use borrow.Author.Rules.{rules}
+use Rattle.message.proofs.writer.encode_ping.Goals as goal
+
+pub returns : goal.returns
+returns c = ping_written _ _ c.encode_nonce.ensures

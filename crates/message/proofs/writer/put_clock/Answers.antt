@@ -1,0 +1,21 @@
+use Rattle.clock.specs.Vector.{entries}
+use Rattle.row.specs.Wire.{deps_bytes}
+use Rattle.message.proofs.TaggedWrites.{tag_found, behind_found, tagged_put, tagged_short}
+use borrow.Author.Rules.{rules}
+use Rattle.message.proofs.writer.put_clock.Goals as goal
+
+pub store_tag-at-requires : goal.store_tag-at-requires
+store_tag-at-requires c =
+    tag_found c.args.out.now c.args.tag (deps_bytes (entries c.args.c)) c.entries_len.ensures.0 c.past-end.ensures c.in-Next.is
+
+pub store_entries-requires : goal.store_entries-requires
+store_entries-requires c =
+    (c.requires, behind_found c.args.out.now c.args.tag (deps_bytes (entries c.args.c)) c.entries_len.ensures.0 c.past-end.ensures c.in-Next.is c.store_tag-at.ensures)
+
+pub returns-in-Next : goal.returns-in-Next
+returns-in-Next c =
+    tagged_put c.args.out.now c.args.tag (deps_bytes (entries c.args.c)) c.entries_len.ensures.0 c.past-end.ensures c.in-Next.is c.store_tag-at.ensures c.store_entries.ensures
+
+pub returns-in-Refused : goal.returns-in-Refused
+returns-in-Refused c =
+    tagged_short c.args.out.now c.args.tag (deps_bytes (entries c.args.c)) c.entries_len.ensures.0 c.past-end.ensures c.in-Refused.is

@@ -1,0 +1,11 @@
+use borrow.Author.Rules.{rules}
+use Prim.Native.Nat.{◌-◌}
+use Rattle.replicated_log.proofs.Calls.Restoration.{part_ok}
+use Rattle.message.proofs.DeltaWrites.{Going, start, row_room, again, all_stored}
+use Rattle.message.proofs.writer.store_rows.Given as goal
+
+abbrev pub invariant-loop-i : goal.invariant-loop-i
+invariant-loop-i l = Going l.initial.out l.at l.rows l.n l.out l.next l.i
+
+abbrev pub decreases-loop-i : goal.decreases-loop-i
+decreases-loop-i l = l.n - l.i

@@ -1,0 +1,17 @@
+use borrow.Author.Rules.{rules}
+use Prim.Native.Nat.{◌-◌, ◌≤◌}
+use mathlib.Core.Path.{◌≡◌}
+use native.Mathlib.Omega.{arith}
+use lib.ListN.{length}
+use lib.Seq.{paste, paste-zero}
+use Rattle.words.proofs.Puts.{copy_turn, copy_done}
+use Rattle.peer.proofs.nonces.copy.Goals as goal
+
+pub loop-i-init : goal.loop-i-init
+loop-i-init c = (search rules, search rules, paste-zero _ c.args.at c.args.s.now)
+
+pub loop-i-preserved : goal.loop-i-preserved
+loop-i-preserved c = (search rules, search rules, copy_turn _ _ _ _ _ c.loop-i.invariant.2 (search rules) (search rules))
+
+pub returns : goal.returns
+returns c = copy_done _ _ _ _ c.loop-i.i c.loop-i.invariant.2 (omega arith)

@@ -1,0 +1,21 @@
+use Prim.Native.Nat.{ℕ}
+use mathlib.Core.Path.{◌≡◌, sym, ◌∙◌}
+use native.Mathlib.Omega.{arith}
+use lib.ListN.{length, length-map}
+use Rattle.peer.proofs.NonceLists.{pushed, pushed_out}
+use borrow.Author.Rules.{rules}
+use Rattle.peer.proofs.nonces.push_nonce.Goals as goal
+
+pub slice_bounds-copy-end-then-count-lt8 : goal.slice_bounds-copy-end-then-count-lt8
+slice_bounds-copy-end-then-count-lt8 c = omega (arith)
+
+pub returns-then-count-lt8 : goal.returns-then-count-lt8
+returns-then-count-lt8 c =
+    pushed c.args.p (omega arith) c.requires _ _ c.if-count-lt8.true c.copy.ensures
+
+pub slice_bounds-copy-end-3 : goal.slice_bounds-copy-end-3
+slice_bounds-copy-end-3 c = omega (arith)
+
+pub returns : goal.returns
+returns c =
+    pushed_out c.args.p (omega arith) c.requires _ _ c.if-count-lt8.false c.copy-2.ensures

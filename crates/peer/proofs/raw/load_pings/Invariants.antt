@@ -1,0 +1,16 @@
+use borrow.Author.Rules.{rules}
+use Prim.Native.Nat.{ℕ, ◌+◌, ◌-◌, ◌*◌, ◌≤◌, ◌<◌}
+use mathlib.Core.Path.{◌≡◌, refl}
+use native.Mathlib.Omega.{arith}
+use lib.ListN.{length, get_or, length-set}
+use Rattle.words.specs.Be.{get64}
+use Rattle.words.proofs.Puts.{fill_turn}
+use Rattle.peer.specs.Area.{pings_at}
+use Rattle.peer.proofs.PeerArea.{words_are}
+use Rattle.peer.proofs.raw.load_pings.Given as goal
+
+abbrev pub invariant-loop-i : goal.invariant-loop-i
+invariant-loop-i l = (l.i ≤ 8) × (length l.nonces ≡ 8) × ((k : ℕ) → k < l.i → get_or l.nonces k 0 ≡ get64 l.s (l.at + 8 + 8 * k))
+
+abbrev pub decreases-loop-i : goal.decreases-loop-i
+decreases-loop-i l = 8 - l.i

@@ -1,0 +1,18 @@
+use Prim.Native.Nat.{ℕ}
+use mathlib.Core.Path.{◌≡◌, sym, ◌∙◌}
+use lib.ListN.{length, length-map}
+use Rattle.peer.proofs.PongPlaces.{there, absent, took_sent, took_again, took_none}
+use borrow.Author.Rules.{rules}
+use Rattle.peer.proofs.taken.Goals as goal
+
+pub returns-then-i-sent : goal.returns-then-i-sent
+returns-then-i-sent c =
+    took_sent c.args.p c.args.nonce _ _ c.find_nonce-i.result (there c.args.p.outstanding (omega arith) c.requires.0 _ _ c.find_nonce-i.ensures c.if-i-sent.true) c.find_nonce-i.ensures c.moved.ensures c.done.ensures
+
+pub returns-then-j-answered : goal.returns-then-j-answered
+returns-then-j-answered c =
+    took_again c.args.p c.args.nonce _ (absent c.args.p.outstanding (omega arith) c.requires.0 _ _ c.find_nonce-i.ensures c.if-i-sent.false) (there c.args.p.answered (omega arith) c.requires.1 _ _ c.find_nonce-j.ensures c.if-j-answered.true) c.done-then-j-answered.ensures
+
+pub returns : goal.returns
+returns c =
+    took_none c.args.p c.args.nonce _ (absent c.args.p.outstanding (omega arith) c.requires.0 _ _ c.find_nonce-i.ensures c.if-i-sent.false) (absent c.args.p.answered (omega arith) c.requires.1 _ _ c.find_nonce-j.ensures c.if-j-answered.false) c.refuse.ensures
