@@ -3,4 +3,3 @@ pub mod PongPlaces
 pub mod PeerCalls
 pub mod PeerArea
 pub mod PendingCount
-pub mod LentPeer

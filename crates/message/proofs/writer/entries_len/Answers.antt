@@ -3,17 +3,17 @@ use mathlib.Core.Path.{sym, ◌∙◌}
 use lib.ListN.{length-map}
 use Rattle.message.proofs.TaggedWrites.{in_columns_lem, clock_counted}
 use borrow.Author.Rules.{rules}
-use Rattle.std.proofs.Common.{length, ◌≡◌}
+use Rattle.std.proofs.Common.{length, ◌≡◌, arith}
 use Rattle.message.proofs.writer.entries_len.Goals as goal
 
 pub clock_len-requires : goal.clock_len-requires
 clock_len-requires c =
-    let long : length c.args.c.authors ≡ 16 = omega arith in
-    let wide : length c.args.c.numbers ≡ 16 = omega arith in
+    let long : length c.args.c.authors ≡ 32 = omega arith in
+    let wide : length c.args.c.numbers ≡ 32 = omega arith in
     in_columns_lem c.args.c c.requires long wide
 
 pub returns : goal.returns
 returns c =
-    let long : length c.args.c.authors ≡ 16 = omega arith in
-    let wide : length c.args.c.numbers ≡ 16 = omega arith in
+    let long : length c.args.c.authors ≡ 32 = omega arith in
+    let wide : length c.args.c.numbers ≡ 32 = omega arith in
     clock_counted c.args.c c.requires long wide c.clock_len.ensures

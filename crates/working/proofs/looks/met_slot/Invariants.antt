@@ -1,0 +1,15 @@
+use borrow.Author.Rules.{rules}
+use Prim.Native.Nat.{◌-◌, ◌≤◌}
+use mathlib.Core.Path.{refl}
+use native.Mathlib.Omega.{arith}
+use Rattle.row.proofs.Operations.{in_area}
+use Rattle.row.specs.Slots.{slot_at, decode_held}
+use Rattle.working.specs.Inside.DrainClock.{ticks}
+use Rattle.working.proofs.ReferenceRows.{LeftMet, met_turn, met_not, met_end, slot_few, slot_length, slot_next}
+use Rattle.working.proofs.looks.met_slot.Given as goal
+
+abbrev pub invariant-loop-i : goal.invariant-loop-i
+invariant-loop-i l = (l.i ≤ l.n) × (l.n ≤ 16) × LeftMet (ticks l.authors l.numbers l.count) (decode_held (slot_at l.held l.base)).row.deps l.i
+
+abbrev pub decreases-loop-i : goal.decreases-loop-i
+decreases-loop-i l = l.n - l.i

@@ -1,0 +1,7 @@
+use Prim.Native.Nat.{◌-◌}
+use Rattle.working.proofs.DrainLoop.{drains_from}
+use borrow.Author.Rules.{rules}
+use Rattle.working.proofs.raw.drain.Goals as goal
+
+pub returns : goal.returns
+returns c = λ time. drains_from c.start_clock-count.ensures.0 (c.drain_by.ensures time)

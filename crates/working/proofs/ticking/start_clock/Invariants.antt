@@ -1,0 +1,15 @@
+use borrow.Author.Rules.{rules}
+use Prim.Native.Nat.{ℕ, ◌+◌, ◌*◌, ◌-◌, ◌≤◌, ◌<◌}
+use mathlib.Core.Path.{◌≡◌, ◌∙◌, ap}
+use native.Mathlib.Omega.{arith}
+use lib.ListN.{length, get_or, length-set}
+use Rattle.words.specs.Be.{get64}
+use Rattle.words.proofs.Puts.{fill_turn}
+use Rattle.working.proofs.DrainClock.{head_few, start_is, start_clocked}
+use Rattle.working.proofs.ticking.start_clock.Given as goal
+
+abbrev pub invariant-loop-i : goal.invariant-loop-i
+invariant-loop-i l = (l.i ≤ l.n) × (l.n ≤ 32) × (length l.authors ≡ length l.initial.authors) × (length l.numbers ≡ length l.initial.numbers) × ((k : ℕ) → k < l.i → get_or l.authors k 0 ≡ get64 l.head (56 + 16 * k)) × ((k : ℕ) → k < l.i → get_or l.numbers k 0 ≡ get64 l.head (64 + 16 * k))
+
+abbrev pub decreases-loop-i : goal.decreases-loop-i
+decreases-loop-i l = l.n - l.i
