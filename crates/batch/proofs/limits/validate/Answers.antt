@@ -1,3 +1,4 @@
+use Rattle.std.proofs.Common.{arith}
 use borrow.Author.Rules.{rules}
 use Prim.Native.Nat.{ℕ}
 use mathlib.Core.Path.{◌≡◌, sym, ◌∙◌}
@@ -6,9 +7,6 @@ use Rattle.row.specs.Values.{deps_of}
 use Rattle.batch.specs.Settings.{limits_of}
 use Rattle.batch.proofs.Validation.{value_length, zero_sequence, foreign_stamp, spent_counter, payload_too_large, too_many_causes, own_future_lem, ahead_of_time, bad_signature, valid_row}
 use Rattle.batch.proofs.limits.validate.Goals as goal
-
-deps_length : (c : tie.Start) → length (deps_of c.args.op.deps) ≡ c.args.op.deps.count
-deps_length c = value_length _ (authors16 c) (numbers16 c) c.requires
 
 pub returns-then-seq-eq0 : goal.returns-then-seq-eq0
 returns-then-seq-eq0 c = zero_sequence _ _ _ _ c.if-seq-eq0.true
@@ -26,24 +24,24 @@ returns-then-op-limits c = payload_too_large _ _ _ _ c.if-seq-eq0.false c.if-sta
 pub returns-then-deps-limits : goal.returns-then-deps-limits
 unfolding limits_of
 returns-then-deps-limits c =
-    too_many_causes _ _ _ _ c.if-seq-eq0.false c.if-stamp-actor.false c.if-stamp.false c.if-op-limits.false (deps_length c) c.if-deps-limits.true
+    too_many_causes _ _ _ _ c.if-seq-eq0.false c.if-stamp-actor.false c.if-stamp.false c.if-op-limits.false (value_length _ (omega arith) (omega arith) c.requires) c.if-deps-limits.true
 
 pub returns-then-own_future : goal.returns-then-own_future
 unfolding limits_of
 returns-then-own_future c =
-    own_future_lem _ _ _ _ c.if-seq-eq0.false c.if-stamp-actor.false c.if-stamp.false c.if-op-limits.false (deps_length c) c.if-deps-limits.false c.own_future.ensures c.if-own_future.true
+    own_future_lem _ _ _ _ c.if-seq-eq0.false c.if-stamp-actor.false c.if-stamp.false c.if-op-limits.false (value_length _ (omega arith) (omega arith) c.requires) c.if-deps-limits.false c.own_future.ensures c.if-own_future.true
 
 pub returns-then-stamp-saturating_add : goal.returns-then-stamp-saturating_add
 unfolding limits_of
 returns-then-stamp-saturating_add c =
-    ahead_of_time _ _ _ _ c.if-seq-eq0.false c.if-stamp-actor.false c.if-stamp.false c.if-op-limits.false (deps_length c) c.if-deps-limits.false c.own_future.ensures c.if-own_future.false c.saturating_add.ensures c.if-stamp-saturating_add.true
+    ahead_of_time _ _ _ _ c.if-seq-eq0.false c.if-stamp-actor.false c.if-stamp.false c.if-op-limits.false (value_length _ (omega arith) (omega arith) c.requires) c.if-deps-limits.false c.own_future.ensures c.if-own_future.false c.saturating_add.ensures c.if-stamp-saturating_add.true
 
 pub returns-then-verdict-ne1 : goal.returns-then-verdict-ne1
 unfolding limits_of
 returns-then-verdict-ne1 c =
-    bad_signature _ _ _ _ c.if-seq-eq0.false c.if-stamp-actor.false c.if-stamp.false c.if-op-limits.false (deps_length c) c.if-deps-limits.false c.own_future.ensures c.if-own_future.false c.saturating_add.ensures c.if-stamp-saturating_add.false c.if-verdict-ne1.true
+    bad_signature _ _ _ _ c.if-seq-eq0.false c.if-stamp-actor.false c.if-stamp.false c.if-op-limits.false (value_length _ (omega arith) (omega arith) c.requires) c.if-deps-limits.false c.own_future.ensures c.if-own_future.false c.saturating_add.ensures c.if-stamp-saturating_add.false c.if-verdict-ne1.true
 
 pub returns : goal.returns
 unfolding limits_of
 returns c =
-    valid_row _ _ _ _ c.if-seq-eq0.false c.if-stamp-actor.false c.if-stamp.false c.if-op-limits.false (deps_length c) c.if-deps-limits.false c.own_future.ensures c.if-own_future.false c.saturating_add.ensures c.if-stamp-saturating_add.false c.if-verdict-ne1.false
+    valid_row _ _ _ _ c.if-seq-eq0.false c.if-stamp-actor.false c.if-stamp.false c.if-op-limits.false (value_length _ (omega arith) (omega arith) c.requires) c.if-deps-limits.false c.own_future.ensures c.if-own_future.false c.saturating_add.ensures c.if-stamp-saturating_add.false c.if-verdict-ne1.false

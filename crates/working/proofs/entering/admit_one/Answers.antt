@@ -13,7 +13,7 @@ returns-then-seq-have c =
 
 pub overflow_add-at : goal.overflow_add-at
 overflow_add-at c =
-    omega (arith, read_inside c.args.batch.now c.args.at c.requires.1, c.well-formed.1.0.1)
+    omega (arith, read_inside c.args.batch.now c.args.at c.requires.1)
 
 pub enter-requires : goal.enter-requires
 enter-requires c =
@@ -25,7 +25,7 @@ returns-in_default c =
 
 pub overflow_mul-j : goal.overflow_mul-j
 overflow_mul-j c =
-    omega (arith, found_below _ _ _ _ (sym c.in-At.is ∙ c.seek.ensures _ _ _ c.requires.4), c.well-formed.1.1.0.1)
+    omega (arith, found_below _ _ _ _ (sym c.in-At.is ∙ c.seek.ensures _ _ _ c.requires.4))
 
 pub get_word-k-requires : goal.get_word-k-requires
 get_word-k-requires c =

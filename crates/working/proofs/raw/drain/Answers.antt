@@ -4,4 +4,4 @@ use borrow.Author.Rules.{rules}
 use Rattle.working.proofs.raw.drain.Goals as goal
 
 pub returns : goal.returns
-returns c = λ time. drains_from c.start_clock-count.ensures.0 (c.drain_by.ensures time)
+returns c = λ time. drains_from c.start_clock-count.ensures.is (c.drain_by.ensures time)

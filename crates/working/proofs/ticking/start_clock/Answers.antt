@@ -53,5 +53,4 @@ loop-i-preserved c =
     (omega arith, omega arith, simp length-set c.loop-i.invariant.2, simp length-set c.loop-i.invariant.3, fill_turn (λ (k : ℕ). get64 args.head.now (56 + 16 * k)) c.loop-i.authors _ _ (omega arith) (c.get_word.ensures ∙ ap (get64 _) (omega arith)) c.loop-i.invariant.4, fill_turn (λ (k : ℕ). get64 args.head.now (64 + 16 * k)) c.loop-i.numbers _ _ (omega arith) (c.get_word-in-loop-i.ensures ∙ ap (get64 _) (omega arith)) c.loop-i.invariant.5)
 
 pub returns : goal.returns
-returns c =
-    (start_is _ _ _ _ c.loop-i.i c.requires.1 c.get_word-n.ensures (omega arith) (omega arith) (omega arith) c.loop-i.invariant.4 c.loop-i.invariant.5, (start_clocked _ _ _ _ c.loop-i.i c.requires.1 c.get_word-n.ensures (omega arith) (omega arith) (omega arith) c.loop-i.invariant.4 c.loop-i.invariant.5, omega arith))
+returns c = record { is = start_is _ _ _ _ c.loop-i.i c.requires.1 c.get_word-n.ensures (omega arith) (omega arith) (omega arith) c.loop-i.invariant.4 c.loop-i.invariant.5; clocked = start_clocked _ _ _ _ c.loop-i.i c.requires.1 c.get_word-n.ensures (omega arith) (omega arith) (omega arith) c.loop-i.invariant.4 c.loop-i.invariant.5; few = omega arith }
