@@ -1,0 +1,12 @@
+use Prim.Native.Nat.{◌-◌}
+use mathlib.Core.Path.{refl}
+use native.Mathlib.Omega.{arith}
+use borrow.Author.Rules.{rules}
+use Rattle.merge.proofs.FoldLoop.{Folding, folding_start, folding_end, in_starts, failed_few, row_read, folding_turn}
+use Rattle.merge.proofs.folding.fold_stamps.Given as goal
+
+abbrev pub invariant-loop-i : goal.invariant-loop-i
+invariant-loop-i l = Folding l.batch l.starts l.time l.rows l.initial.folded.clock l.folded l.i
+
+abbrev pub decreases-loop-i : goal.decreases-loop-i
+decreases-loop-i l = l.rows - l.i
