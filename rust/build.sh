@@ -195,7 +195,7 @@ minutes() { # SECONDS
 
 # The seconds of each crate, measured on two cores of an x86-64 server; cuwelfra's are for its proof and the compiled library.
 declare -A measured_seconds=(
-    [stubs]=1 [error]=7 [words]=10 [codec]=32 [clock]=30 [row]=50 [log]=79 [gc]=8 [sync]=15 [peer]=29 [merging]=10
+    [stubs]=1 [error]=7 [words]=10 [codec]=32 [clock]=30 [row]=50 [replicated_log]=79 [gc]=8 [sync]=15 [peer]=29 [merging]=10
     [engine]=24 [working]=50 [batch]=15 [quota]=18 [commit]=25 [merge]=46 [cuwelfra]=75
 )
 # What crates.txt has: the crates, and what each may import.

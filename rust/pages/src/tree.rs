@@ -26,7 +26,7 @@ const COPIES: [&str; 7] = [
 const SOURCES: [&str; 10] = [
     "crates/stubs/src/lib.rt",
     "crates/row/src/lib.rt",
-    "crates/log/src/lib.rt",
+    "crates/replicated_log/src/lib.rt",
     "crates/middle/src/lib.rt",
     "crates/cuwelfra/src/lib.rt",
     "rust/desks/src/main.rs",
@@ -41,9 +41,9 @@ const CRATES: &str = "\
 # NAME: what it may import.
 stubs:
 row: stubs # and not peer
-log: stubs row
-peer: log
-middle: log io
+replicated_log: stubs row
+peer: replicated_log
+middle: replicated_log io
 cuwelfra staticlib: middle
 # programs
 replay: cuwelfra io
@@ -73,7 +73,7 @@ lib)
     case $crate in
     stubs) took=1 ;;
     row) took=50 ;;
-    log) took=79 ;;
+    replicated_log) took=79 ;;
     middle) took=28 ;;
     cuwelfra) took=75 ;;
     *) exit 2 ;;

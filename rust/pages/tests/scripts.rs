@@ -255,7 +255,7 @@ fn the_proofs_are_told_as_they_go() {
         let expected = [
             "stubs proved; 1 of 5, 4 min left",
             "row proved; 2 of 5, 3 min left",
-            "log proved; 3 of 5, 2 min left",
+            "replicated_log proved; 3 of 5, 2 min left",
             "middle proved; 4 of 5, 1 min left",
         ];
         assert_eq!(progress(&ran.err), expected, "{ran:?}");
@@ -292,7 +292,7 @@ fn the_guess_follows_the_pace() {
         // 531 s for what was measured with 81: 182 s are to come.
         "row proved; 2 of 5, 20 min left",
         // 103 s, at the same pace.
-        "log proved; 3 of 5, 11 min left",
+        "replicated_log proved; 3 of 5, 11 min left",
         // 559 s for 109: 75 s.
         "middle proved; 4 of 5, 6 min left",
     ];
