@@ -7,7 +7,7 @@ use std::path::{Path, PathBuf};
 use std::process::{Command, Stdio};
 use std::sync::{Mutex, MutexGuard, PoisonError};
 use std::time::{Duration, UNIX_EPOCH};
-use std::{env, io};
+use std::{env, io, process};
 
 use crate::files::{read, root};
 
@@ -131,13 +131,15 @@ pub struct Ran {
     pub err: String,
 }
 
-/// The folder of a tree: the repository in `top`, the tools in `tools`, and `caller`, where the scripts are started.
+/// The folder of a tree: the repository in `top`, the tools in `tools`, and `caller`, where the scripts are started. It
+/// stands outside the repository, in which `rt ci` refuses links and another list of crates, and is removed at the end.
 pub struct Tree(PathBuf);
 
 impl Tree {
     /// A tree with every tool, a library newer than its sources and the program desks newer than both.
-    pub fn new(folder: &str, name: &str) -> Self {
-        let tree = Self(Path::new(folder).join("scripts").join(name));
+    pub fn new(name: &str) -> Self {
+        let folder = format!("cuwelfra-scripts-{}-{name}", process::id());
+        let tree = Self(env::temp_dir().join(folder));
         match fs::remove_dir_all(&tree.0) {
             Err(error) if error.kind() != io::ErrorKind::NotFound => panic!("{name}: {error}"),
             _ => {}
@@ -260,6 +262,13 @@ impl Tree {
     pub fn called(&self) -> Vec<String> {
         let short = |call: String| call.split(' ').take(2).collect::<Vec<_>>().join(" ");
         self.calls().into_iter().map(short).collect()
+    }
+}
+
+impl Drop for Tree {
+    fn drop(&mut self) {
+        // What cannot be removed stays.
+        let _ = fs::remove_dir_all(&self.0);
     }
 }
 

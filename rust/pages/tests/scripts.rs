@@ -21,7 +21,7 @@ const BOTH: [&str; 6] = [
 ];
 
 fn tree(name: &str) -> Tree {
-    Tree::new(env!("CARGO_TARGET_TMPDIR"), name)
+    Tree::new(name)
 }
 
 /// A tree without these tools.
