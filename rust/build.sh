@@ -50,11 +50,12 @@ unset CARGO_BUILD_TARGET
 library=${CUWELFRA_LIB_DIR:-$root/target/staticlib}/libcuwelfra.a
 programs=$root/target/rust/release
 
-# Whether a file is there and nothing below the paths is newer. Must-fail edits go into nothing that is made.
+# Whether a file is there and nothing below the paths is newer. Must-fail edits go into nothing that is made, and what `rt`
+# makes stands in the folders out/ of the crates.
 is_newest() { # FILE PATH...
     local file=$1
     shift
-    [ -f "$file" ] && [ -z "$(find "$@" -name must-fail -prune -o -type f -newer "$file" -print -quit)" ]
+    [ -f "$file" ] && [ -z "$(find "$@" \( -name must-fail -o -path '*/crates/*/out' \) -prune -o -type f -newer "$file" -print -quit)" ]
 }
 
 # Whether the library need not be made. One that is named is taken as it is.
@@ -97,15 +98,13 @@ build() { # PACKAGE
     log=$(mktemp)
     trap 'rm -f "$log"' EXIT
     if ! library_is_fresh; then
-        started=$EPOCHREALTIME
         weigh_crates
         tell "making the static library, which is done once: ${#weights[@]} crates are proved, about $(minutes "$all_seconds") min"
-        watched watch_proofs rt staticlib cuwelfra
+        watched watch_proofs "rt lib" make_library
         tell "cuwelfra proved and compiled; ${#weights[@]} of ${#weights[@]} crates, $(so_far)"
-        date_back "$started" "$library"
     fi
     started=$EPOCHREALTIME
-    watched watch_cargo cargo_build "$1"
+    watched watch_cargo "cargo build" cargo_build "$1"
     rm -f "$log"
     trap - EXIT
 }
@@ -115,18 +114,44 @@ date_back() { # TIME FILE
     touch -c -d "@${1/,/.}" "$2"
 }
 
+# Proves the crates that the library needs, lowest first, compiles it, and copies it to where it is looked for. `rt` keeps
+# what it proved in the folders out/ of the crates, and writes nothing where a crate and those below it are unchanged.
+make_library() {
+    local name said began started=$EPOCHREALTIME
+    weigh_crates
+    for name in "${lowest_first[@]}"; do
+        began=$(date +%s)
+        if ! said=$(cd "$root/crates/$name" && rt lib 2>&1); then
+            echo "$said"
+            echo "crate $name is not made"
+            return 1
+        fi
+        if [ "$name" = cuwelfra ]; then
+            echo "$said"
+        elif [ -n "$said" ]; then
+            echo "$said"
+            echo "crate $name proved ($(($(date +%s) - began)) s)"
+        else
+            echo "crate $name proved (unchanged)"
+        fi
+    done
+    mkdir -p "$root/target/staticlib" &&
+        cp "$root/crates/cuwelfra/out/libcuwelfra.a" "$root/target/staticlib" &&
+        date_back "$started" "$root/target/staticlib/libcuwelfra.a"
+}
+
 cargo_build() { # PACKAGE
     CARGO_TARGET_DIR=$root/target/rust \
         cargo build --release --offline --locked --manifest-path rust/Cargo.toml --package "$1"
 }
 
 # Runs one step at the top of the repository. What it writes goes to a watcher, and is shown only where the step fails.
-watched() { # WATCHER COMMAND...
-    local watcher=$1
-    shift
+watched() { # WATCHER TITLE COMMAND...
+    local watcher=$1 title=$2
+    shift 2
     if ! (cd "$root" && "$@") 2>&1 | tee "$log" | "$watcher"; then
         cat "$log" >&2
-        stop 3 "this failed: $*"
+        stop 3 "this failed: $title"
     fi
 }
 
@@ -141,12 +166,12 @@ watch_cargo() {
     done
 }
 
-# Tells each crate that rt has proved, with a guess of the time that is left: the measured seconds of the crates to come,
+# Tells each crate that is proved, with a guess of the time that is left: the measured seconds of the crates to come,
 # at the pace of those that were proved now. The pace begins as if half a minute had gone as measured.
 watch_proofs() {
     local line name seconds weight proved=0 left=$all_seconds measured=30 took=30
     while IFS= read -r line; do
-        [[ $line =~ ^rt:\ ([A-Za-z0-9_]+)\ proved\ \(([0-9]*) ]] || continue
+        [[ $line =~ ^crate\ ([a-z0-9_]+)\ proved\ \(([0-9]*) ]] || continue
         name=${BASH_REMATCH[1]} seconds=${BASH_REMATCH[2]}
         weight=${weights[$name]:-0}
         proved=$((proved + 1)) left=$((left - weight))
@@ -170,19 +195,22 @@ minutes() { # SECONDS
 
 # The seconds of each crate, measured on two cores of an x86-64 server; cuwelfra's are for its proof and the compiled library.
 declare -A measured_seconds=(
-    [stubs]=1 [error]=7 [words]=10 [codec]=32 [clock]=30 [row]=50 [log]=79 [gc]=8 [sync]=15 [peer]=29 [merging]=10
+    [stubs]=1 [error]=7 [words]=10 [codec]=32 [clock]=30 [row]=50 [replicated_log]=79 [gc]=8 [sync]=15 [peer]=29 [merging]=10
     [engine]=24 [working]=50 [batch]=15 [quota]=18 [commit]=25 [merge]=46 [cuwelfra]=75
 )
 # What crates.txt has: the crates, and what each may import.
 declare -A imports
-# The crates that the library needs, with the seconds that each is expected to take.
+# The crates that the library needs, with the seconds that each is expected to take, and their names, each behind those that
+# it imports.
 declare -A weights
+lowest_first=()
 
-# Fills `weights`, and `all_seconds` with their sum.
+# Fills `weights` and `lowest_first`, and `all_seconds` with the sum.
 weigh_crates() {
     local name names
     while IFS=: read -r name names; do
-        imports[$name]=$names
+        # Behind the name stands what kind of crate it is.
+        imports[${name%% *}]=$names
     done < <(sed -n 's/#.*//; s/[[:space:]]*:/:/p' "$root/crates.txt")
     add_crate cuwelfra
     all_seconds=$(sum "${weights[@]}")
@@ -199,6 +227,7 @@ add_crate() { # NAME
     for name in ${imports[$1]}; do
         add_crate "$name"
     done
+    lowest_first+=("$1")
 }
 
 sum() { # NUMBER...

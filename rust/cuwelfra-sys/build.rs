@@ -11,7 +11,7 @@ fn main() {
     println!("cargo::rerun-if-changed={}", library.display());
     if !library.is_file() {
         eprintln!(
-            "{} is missing: make it with `rt staticlib cuwelfra` at the top of the repository, \
+            "{} is missing: make it with `rt lib` in crates/cuwelfra and copy it from there, out of out/, \
              or name its folder in CUWELFRA_LIB_DIR",
             library.display()
         );

@@ -7,12 +7,13 @@ use clock::hybrid::{HybridClock, Issued};
 use clock::stamp::Timestamp;
 use clock::vector::Outcome;
 use error::Refusal;
-use libc::{STDIN_FILENO, STDOUT_FILENO};
-use replicated_log::change::insert;
-use replicated_log::lookup::lookup;
 use merge::delta::apply_delta;
 use merge::floor::set_floor;
 use merge::{Joined, MergeReport};
+use replicated_log::change::insert;
+use replicated_log::lookup::lookup;
+use std::io;
+use std::io::{ErrorKind, Read};
 use stubs::ActorId;
 use words::raw::{copy, get_word};
 
@@ -49,7 +50,7 @@ struct Tally {
 }
 
 // The areas that are lent: a log of up to 128 slots, and as much as the longest record needs of the others.
-fn main() {
+fn main(rt: HostRuntime) -> io::Result<()> {
     let mut log = [0u8; 90112];
     let mut held = [0u8; 45056];
     let mut head = [0u8; 2120];
@@ -57,7 +58,10 @@ fn main() {
     let mut lines = [0u8; 2304];
     let mut scratch = [0u8; 90112];
     let mut output = [0u8; 2304];
+    let mut sample = rt.reader();
     let all = replay(
+        &rt,
+        &mut sample,
         &mut log,
         &mut held,
         &mut head,
@@ -65,14 +69,17 @@ fn main() {
         &mut lines,
         &mut scratch,
         &mut output,
-    );
+    )?;
     if !all {
-        say(b"replay: NOT as recorded\n");
+        say(&rt, "replay: NOT as recorded\n")?;
     }
+    Ok(())
 }
 
 // Replays every record up to the first that differs, and says how it went.
 fn replay(
+    rt: &impl Print,
+    sample: &mut impl Read,
     log: &mut [u8],
     held: &mut [u8],
     head: &mut [u8],
@@ -80,9 +87,9 @@ fn replay(
     lines: &mut [u8],
     scratch: &mut [u8],
     output: &mut [u8],
-) -> bool {
+) -> io::Result<bool> {
     let mut record = [0u8; 272];
-    let count = begin();
+    let count = begin(sample)?;
     let mut tally = Tally {
         stores: 0,
         floors: 0,
@@ -93,39 +100,37 @@ fn replay(
         lookups: 0,
     };
     let mut size: usize = 0;
-    let mut i: u64 = 0;
-    while i < count {
-        i += 1;
-        let whole = read_whole(&mut record);
+    for i in 0..count {
+        let whole = read_whole(sample, &mut record)?;
         size = log_size(&record, size);
         let verdict = turn(
-            &record, whole, size, log, held, head, block, lines, scratch, output,
-        );
-        if !agrees(i, verdict) {
-            return false;
+            sample, &record, whole, size, log, held, head, block, lines, scratch, output,
+        )?;
+        if !agrees(rt, i + 1, verdict)? {
+            return Ok(false);
         }
         tally = tallied(&record, tally);
     }
-    finish(count, tally)
+    finish(rt, sample, count, tally)
 }
 
 // How many records follow, 0 where the sample does not begin as it must.
-fn begin() -> u64 {
+fn begin(sample: &mut impl Read) -> io::Result<u64> {
     let mut mark = [0u8; 8];
     let mut start = [0u8; 16];
-    if !read_whole(&mut mark) {
-        return 0;
+    if !read_whole(sample, &mut mark)? {
+        return Ok(0);
     }
-    if !check::same(&mark, b"cuwelfra") {
-        return 0;
+    if mark != *b"cuwelfra" {
+        return Ok(0);
     }
-    if !read_whole(&mut start) {
-        return 0;
+    if !read_whole(sample, &mut start)? {
+        return Ok(0);
     }
     if word(&start, 1) != 34 {
-        return 0;
+        return Ok(0);
     }
-    word(&start, 0)
+    Ok(word(&start, 0))
 }
 
 // Word i of a block of words, 0 where it has none.
@@ -137,16 +142,24 @@ fn word(words: &[u8], i: usize) -> u64 {
 }
 
 // Reads the next bytes of the sample, and answers whether there were as many.
-fn read_whole(s: &mut [u8]) -> bool {
-    io::read_full(STDIN_FILENO, s) == s.len()
+fn read_whole(sample: &mut impl Read, s: &mut [u8]) -> io::Result<bool> {
+    match sample.read_exact(s) {
+        Ok(()) => Ok(true),
+        Err(e) => {
+            if e.kind() == ErrorKind::UnexpectedEof {
+                return Ok(false);
+            }
+            Err(e)
+        }
+    }
 }
 
 // The same with the first n bytes of an area that may be too short.
-fn read_first(s: &mut [u8], n: usize) -> bool {
+fn read_first(sample: &mut impl Read, s: &mut [u8], n: usize) -> io::Result<bool> {
     if n > s.len() {
-        return false;
+        return Ok(false);
     }
-    read_whole(&mut s[..n])
+    read_whole(sample, &mut s[..n])
 }
 
 // The length of the log area: a new store's, or as it was.
@@ -163,6 +176,7 @@ fn log_size(record: &[u8], size: usize) -> usize {
 
 // Reads the blocks of a record, and makes its call.
 fn turn(
+    sample: &mut impl Read,
     record: &[u8],
     whole: bool,
     size: usize,
@@ -173,21 +187,21 @@ fn turn(
     lines: &mut [u8],
     scratch: &mut [u8],
     output: &mut [u8],
-) -> Verdict {
+) -> io::Result<Verdict> {
     if !whole {
-        return Verdict::Unreadable;
+        return Ok(Verdict::Unreadable);
     }
     let n = word(record, 1) as usize;
     let m = word(record, 2) as usize;
-    if !read_first(block, n) {
-        return Verdict::Unreadable;
+    if !read_first(sample, block, n)? {
+        return Ok(Verdict::Unreadable);
     }
-    if !read_first(lines, m) {
-        return Verdict::Unreadable;
+    if !read_first(sample, lines, m)? {
+        return Ok(Verdict::Unreadable);
     }
-    lend(
+    Ok(lend(
         record, size, log, held, head, block, n, lines, m, scratch, output,
-    )
+    ))
 }
 
 // Makes the call on areas of the recorded lengths.
@@ -315,7 +329,7 @@ fn row_lookup<'a>(
 ) -> Verdict {
     let actor = ActorId(word(record, 3));
     let part = lookup(log, held, head, actor, word(record, 4));
-    if !check::same(part, payload) {
+    if part != payload {
         return Verdict::Payload;
     }
     Verdict::Same
@@ -394,10 +408,8 @@ fn clock_of(record: &[u8], counter: u32) -> HybridClock {
 }
 
 fn fill(s: &mut [u8]) {
-    let mut i = 0;
-    while i < s.len() {
-        s[i] = UNTOUCHED;
-        i += 1;
+    for x in s.iter_mut() {
+        *x = UNTOUCHED;
     }
 }
 
@@ -480,12 +492,10 @@ fn no_stamp_is(record: &[u8], r: Refusal) -> bool {
 
 // Whether the record's words from `from` on are these.
 fn words_are(record: &[u8], from: u32, numbers: &[u64]) -> bool {
-    let mut i = 0;
-    while i < numbers.len() {
-        if word(record, from as usize + i) != numbers[i] {
+    for (i, number) in numbers.iter().enumerate() {
+        if word(record, from as usize + i) != *number {
             return false;
         }
-        i += 1;
     }
     true
 }
@@ -499,7 +509,7 @@ fn written_is(lines: &[u8], scratch: &[u8], output: &[u8]) -> Verdict {
     if n > output.len() {
         return Verdict::Lines;
     }
-    if !check::same(&output[..n], lines) {
+    if &output[..n] != lines {
         return Verdict::Lines;
     }
     if !is_untouched(&output[n..]) {
@@ -509,14 +519,7 @@ fn written_is(lines: &[u8], scratch: &[u8], output: &[u8]) -> Verdict {
 }
 
 fn is_untouched(s: &[u8]) -> bool {
-    let mut i = 0;
-    while i < s.len() {
-        if s[i] != UNTOUCHED {
-            return false;
-        }
-        i += 1;
-    }
-    true
+    s.iter().all(|x| *x == UNTOUCHED)
 }
 
 // Whether the areas have the recorded check numbers.
@@ -536,17 +539,15 @@ fn areas_are(record: &[u8], log: &[u8], held: &[u8], head: &[u8]) -> Verdict {
 // 0, and for each word rotated left by 5 bits, the word added.
 fn check_number(area: &[u8]) -> u64 {
     let mut sum: u64 = 0;
-    let mut i = 0;
-    while i < area.len() / 8 {
-        sum = std::num::wrapping_add_u64(rotated(sum), word(area, i));
-        i += 1;
+    for i in 0..area.len() / 8 {
+        sum = rotated(sum).wrapping_add(word(area, i));
     }
     sum
 }
 
 // Rotated left by 5 bits.
 fn rotated(x: u64) -> u64 {
-    std::num::wrapping_add_u64(x % 576460752303423488 * 32, x / 576460752303423488)
+    x.rotate_left(5)
 }
 
 // Counts a record that came out as recorded.
@@ -557,7 +558,7 @@ fn tallied(record: &[u8], t: Tally) -> Tally {
         floors: more(t.floors, kind == 2),
         batches: more(t.batches, kind == 3),
         refused: more(t.refused, word(record, 13) != 0),
-        failed: std::num::wrapping_add_u64(t.failed, word(record, 23)),
+        failed: t.failed.wrapping_add(word(record, 23)),
         rows: more(t.rows, kind == 4),
         lookups: more(t.lookups, kind == 5),
     }
@@ -566,65 +567,60 @@ fn tallied(record: &[u8], t: Tally) -> Tally {
 // One more where it is one.
 fn more(n: u64, one: bool) -> u64 {
     if one {
-        return std::num::wrapping_add_u64(n, 1);
+        return n.wrapping_add(1);
     }
     n
 }
 
 // Says what differs in a record, and answers whether nothing does.
-fn agrees(i: u64, verdict: Verdict) -> bool {
+fn agrees(rt: &impl Print, i: u64, verdict: Verdict) -> io::Result<bool> {
     match verdict {
-        Verdict::Same => true,
-        Verdict::Unreadable => differs(i, b"cannot be read"),
-        Verdict::Answer => differs(i, b"the answer differs"),
-        Verdict::Counts => differs(i, b"the counts differ"),
-        Verdict::Clock => differs(i, b"the hybrid clock differs"),
-        Verdict::Scratch => differs(i, b"scratch is not zero"),
-        Verdict::Lines => differs(i, b"the lines of the output differ"),
-        Verdict::Behind => differs(i, b"the output behind the lines has changed"),
-        Verdict::Payload => differs(i, b"the payload differs"),
-        Verdict::Log => differs(i, b"the log area differs"),
-        Verdict::Held => differs(i, b"the held area differs"),
-        Verdict::Head => differs(i, b"the head area differs"),
+        Verdict::Same => Ok(true),
+        Verdict::Unreadable => differs(rt, i, "cannot be read"),
+        Verdict::Answer => differs(rt, i, "the answer differs"),
+        Verdict::Counts => differs(rt, i, "the counts differ"),
+        Verdict::Clock => differs(rt, i, "the hybrid clock differs"),
+        Verdict::Scratch => differs(rt, i, "scratch is not zero"),
+        Verdict::Lines => differs(rt, i, "the lines of the output differ"),
+        Verdict::Behind => differs(rt, i, "the output behind the lines has changed"),
+        Verdict::Payload => differs(rt, i, "the payload differs"),
+        Verdict::Log => differs(rt, i, "the log area differs"),
+        Verdict::Held => differs(rt, i, "the held area differs"),
+        Verdict::Head => differs(rt, i, "the head area differs"),
     }
 }
 
-fn differs(i: u64, text: &[u8]) -> bool {
-    say(b"record ");
-    io::print_decimal(STDOUT_FILENO, i);
-    say(b": ");
-    say(text);
-    say(b"\n");
-    false
+fn differs(rt: &impl Print, i: u64, text: &str) -> io::Result<bool> {
+    println!(rt; "record {i}: {text}")?;
+    Ok(false)
 }
 
 // Says how many records there were, and answers whether that is all of a sample.
-fn finish(count: u64, t: Tally) -> bool {
+fn finish(rt: &impl Print, sample: &mut impl Read, count: u64, t: Tally) -> io::Result<bool> {
     if count == 0 {
-        say(b"not a sample, or an empty one\n");
-        return false;
+        say(rt, "not a sample, or an empty one\n")?;
+        return Ok(false);
     }
     let mut next = [0u8; 1];
-    if io::read_full(STDIN_FILENO, &mut next) != 0 {
-        say(b"the sample goes on after its last record\n");
-        return false;
+    if read_whole(sample, &mut next)? {
+        say(rt, "the sample goes on after its last record\n")?;
+        return Ok(false);
     }
-    say(b"replay: ");
-    say_count(t.stores, b" stores, ");
-    say_count(t.floors, b" floor settings, ");
-    say_count(t.batches, b" batch calls (");
-    say_count(t.refused, b" refused, ");
-    say_count(t.failed, b" folds failed), ");
-    say_count(t.rows, b" rows inserted, ");
-    say_count(t.lookups, b" payloads looked up: all as recorded\n");
-    true
+    say(rt, "replay: ")?;
+    say_count(rt, t.stores, " stores, ")?;
+    say_count(rt, t.floors, " floor settings, ")?;
+    say_count(rt, t.batches, " batch calls (")?;
+    say_count(rt, t.refused, " refused, ")?;
+    say_count(rt, t.failed, " folds failed), ")?;
+    say_count(rt, t.rows, " rows inserted, ")?;
+    say_count(rt, t.lookups, " payloads looked up: all as recorded\n")?;
+    Ok(true)
 }
 
-fn say_count(n: u64, text: &[u8]) {
-    io::print_decimal(STDOUT_FILENO, n);
-    say(text);
+fn say_count(rt: &impl Print, n: u64, text: &str) -> io::Result<()> {
+    print!(rt; "{n}{text}")
 }
 
-fn say(text: &[u8]) {
-    io::write_all(STDOUT_FILENO, text);
+fn say(rt: &impl Print, text: &str) -> io::Result<()> {
+    print!(rt; "{text}")
 }

@@ -16,11 +16,11 @@ const CRATES: [(&str, &[&str]); 10] = [
     ("src/error.rs", &["error"]),
     ("src/codec.rs", &["codec", "row", "message"]),
     ("src/clock.rs", &["clock"]),
-    ("src/log.rs", &["log", "row"]),
+    ("src/log.rs", &["replicated_log", "row"]),
     ("src/gc.rs", &["gc"]),
     ("src/sync.rs", &["sync", "codec", "message"]),
     ("src/peer.rs", &["peer"]),
-    ("src/merge.rs", &["merge", "batch", "log"]),
+    ("src/merge.rs", &["merge", "batch", "replicated_log"]),
     ("src/engine.rs", &["engine", "merge"]),
 ];
 

@@ -6,7 +6,7 @@ use std::path::Path;
 
 use crate::files::{below, read, root};
 
-/// A module of `specs/`: its crate, and its path below `specs`, as `inside/Moves`.
+/// A module of `specs/`: its crate, and its path below `specs`, as `Inside/Moves`.
 pub type Module = (String, String);
 /// A definition: its module and its name.
 pub type Place = (Module, String);
@@ -34,7 +34,7 @@ impl Definitions {
             let text = read(&path);
             (module_of(&path), text)
         });
-        Definitions::of(texts.filter(|((_, place), _)| place != "Lib" && place != "inside"))
+        Definitions::of(texts.filter(|((_, place), _)| place != "Lib" && place != "Inside"))
     }
 
     /// Those of some modules, by their texts.
@@ -143,7 +143,7 @@ fn is_public(path: &Path) -> bool {
     name == "lib" || read(&root).contains(&format!("pub mod {name};"))
 }
 
-/// The words of the contracts of `pub fn`, between the brackets.
+/// The words of the clauses of `pub fn`.
 fn contract_words(source: &str) -> BTreeSet<String> {
     let mut found = BTreeSet::new();
     let mut inside = false;
@@ -156,19 +156,26 @@ fn contract_words(source: &str) -> BTreeSet<String> {
             inside = false;
         }
         if inside {
-            for part in line.split('⌜').skip(1) {
-                found.extend(words(part.split('⌝').next().unwrap_or(part)));
-            }
+            found.extend(words(clause(line)));
         }
     }
     found
 }
 
-/// The words of a text. An operator `_⊑_` is known by `⊑` too.
+/// What stands between the braces of a line with a clause, and nothing of another line.
+fn clause(line: &str) -> &str {
+    let is_clause = line.starts_with("requires ") || line.starts_with("ensures ");
+    let inner = line
+        .split_once("{ ")
+        .and_then(|(_, rest)| rest.strip_suffix(" }"));
+    inner.filter(|_| is_clause).unwrap_or("")
+}
+
+/// The words of a text. An operator `◌⊑◌` is known by `⊑` too.
 fn words(text: &str) -> impl Iterator<Item = String> + '_ {
     text.split(|c: char| c.is_whitespace() || "(){}[];,.\"«»λ".contains(c))
         .filter(|word| !word.is_empty())
-        .flat_map(|word| [word.to_string(), format!("_{word}_")])
+        .flat_map(|word| [word.to_string(), format!("◌{word}◌")])
 }
 
 /// Reads a file of antt.
@@ -225,15 +232,14 @@ fn parse(source: &str) -> Text {
     text
 }
 
-/// A line `use Rattle·NAME.specs.Path.{names}`, or from inside its crate `use Rattle·NAME·specs.specs.Path.{names}`.
+/// A line `use Rattle.NAME.specs.Path.{names}`, of another crate or of its own.
 fn import(text: &mut Text, line: &str) {
-    let Some(rest) = line.strip_prefix("use Rattle·") else {
+    let Some(rest) = line.strip_prefix("use Rattle.") else {
         return;
     };
     let Some((path, names)) = rest.split_once(".{") else {
         return;
     };
-    let path = path.replace("·specs.specs.", ".specs.");
     let Some((crate_name, place)) = path.split_once(".specs.") else {
         return;
     };

@@ -13,13 +13,16 @@ pub fn read(path: &Path) -> String {
     fs::read_to_string(path).unwrap_or_else(|error| panic!("{}: {error}", path.display()))
 }
 
-/// Every file below a folder with this ending, in the order of their paths.
+/// Every file below a folder with this ending, in the order of their paths. What `rt` makes, in folders `out`, is no text.
 pub fn below(folder: &Path, ending: &str) -> Vec<PathBuf> {
     let mut found = Vec::new();
     let entries =
         fs::read_dir(folder).unwrap_or_else(|error| panic!("{}: {error}", folder.display()));
     for entry in entries {
         let path = entry.expect("a folder's entry").path();
+        if path.is_dir() && path.ends_with("out") {
+            continue;
+        }
         if path.is_dir() {
             found.extend(below(&path, ending));
         } else if path.to_string_lossy().ends_with(ending) {

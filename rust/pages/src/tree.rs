@@ -7,7 +7,7 @@ use std::path::{Path, PathBuf};
 use std::process::{Command, Stdio};
 use std::sync::{Mutex, MutexGuard, PoisonError};
 use std::time::{Duration, UNIX_EPOCH};
-use std::{env, io};
+use std::{env, io, process};
 
 use crate::files::{read, root};
 
@@ -23,8 +23,12 @@ const COPIES: [&str; 7] = [
 ];
 
 /// What goes into the program desks and the library, beside what is copied.
-const SOURCES: [&str; 6] = [
+const SOURCES: [&str; 10] = [
+    "crates/stubs/src/lib.rt",
     "crates/row/src/lib.rt",
+    "crates/replicated_log/src/lib.rt",
+    "crates/middle/src/lib.rt",
+    "crates/cuwelfra/src/lib.rt",
     "rust/desks/src/main.rs",
     "rust/cuwelfra/src/lib.rs",
     "rust/cuwelfra-sys/src/lib.rs",
@@ -37,38 +41,57 @@ const CRATES: &str = "\
 # NAME: what it may import.
 stubs:
 row: stubs # and not peer
-log: stubs row
-peer: log
-middle: log io
-cuwelfra: middle
+replicated_log: stubs row
+peer: replicated_log
+middle: replicated_log io
+cuwelfra staticlib: middle
 # programs
 replay: cuwelfra io
 ";
 
-/// The machine's own tools that the scripts use, those of this tree among them.
+/// The machine's own tools that the scripts use, those of this tree among them. The clock is not among them.
 const TOOLS: [&str; 16] = [
     "bash", "cat", "cp", "find", "grep", "mkdir", "mktemp", "mv", "readlink", "rm", "sed", "sleep",
     "stty", "tail", "tee", "touch",
 ];
 
-/// Proves each crate in the seconds that it was measured with, at the repository's top alone.
+/// Proves all at the repository's top, and a crate in its folder, in the seconds that it was measured with: it sets the
+/// clock forward by so many.
 const RT: &str = r#"#!/bin/sh
 echo "rt $*" >>"$CALLS"
-[ -f crates.txt ] || exit 2
 case $1 in
 ci)
-    rm -rf target
+    [ -f crates.txt ] || exit 2
+    mkdir -p crates/row/out
+    echo "anything" >crates/row/out/row
+    echo "rt: ok; handles allowed: none; must-fail edits: 1 refused; every proof and must-fail edit was done in this run"
     echo "3 passed, 0 failed"
     ;;
-staticlib)
-    echo "rt: stubs proved (1 s)" >&2
-    echo "rt: row proved (50 s)" >&2
-    echo "rt: log proved (79 s)" >&2
-    echo "rt: middle proved (28 s)" >&2
-    mkdir -p target/staticlib
-    echo "a library" >target/staticlib/libcuwelfra.a
+lib)
+    crate=${PWD##*/}
+    cd ../.. && [ -f crates.txt ] || exit 2
+    case $crate in
+    stubs) took=1 ;;
+    row) took=50 ;;
+    replicated_log) took=79 ;;
+    middle) took=28 ;;
+    cuwelfra) took=75 ;;
+    *) exit 2 ;;
+    esac
+    [ "$took" = unchanged ] && exit
+    echo $(($(date) + took)) >"$CLOCK"
+    echo "logic=proved functions=1"
+    mkdir -p "crates/$crate/out"
+    echo "a library" >"crates/$crate/out/lib$crate.a"
     ;;
+*) exit 2 ;;
 esac
+"#;
+
+/// Tells the seconds on the clock.
+const DATE: &str = r#"#!/bin/sh
+[ -f "$CLOCK" ] || echo 0 >"$CLOCK"
+cat "$CLOCK"
 "#;
 
 /// Builds every program where it is asked to, and has two lines of tests.
@@ -108,13 +131,15 @@ pub struct Ran {
     pub err: String,
 }
 
-/// The folder of a tree: the repository in `top`, the tools in `tools`, and `caller`, where the scripts are started.
+/// The folder of a tree: the repository in `top`, the tools in `tools`, and `caller`, where the scripts are started. It
+/// stands outside the repository, in which `rt ci` refuses links and another list of crates, and is removed at the end.
 pub struct Tree(PathBuf);
 
 impl Tree {
     /// A tree with every tool, a library newer than its sources and the program desks newer than both.
-    pub fn new(folder: &str, name: &str) -> Self {
-        let tree = Self(Path::new(folder).join("scripts").join(name));
+    pub fn new(name: &str) -> Self {
+        let folder = format!("cuwelfra-scripts-{}-{name}", process::id());
+        let tree = Self(env::temp_dir().join(folder));
         match fs::remove_dir_all(&tree.0) {
             Err(error) if error.kind() != io::ErrorKind::NotFound => panic!("{name}: {error}"),
             _ => {}
@@ -128,7 +153,12 @@ impl Tree {
             };
             symlink(path, tree.0.join("tools").join(tool)).expect("a link to a tool");
         }
-        for (tool, text) in [("rt", RT), ("cargo", CARGO), ("cc", "#!/bin/sh\n")] {
+        for (tool, text) in [
+            ("rt", RT),
+            ("date", DATE),
+            ("cargo", CARGO),
+            ("cc", "#!/bin/sh\n"),
+        ] {
             tree.tool(tool, text);
         }
         tree.write("../program", PROGRAM);
@@ -197,6 +227,7 @@ impl Tree {
             .env("PATH", self.0.join("tools"))
             .env("TMPDIR", self.0.join("temporary"))
             .env("CALLS", self.0.join("calls"))
+            .env("CLOCK", self.0.join("clock"))
             .env("PROGRAM", self.0.join("program"))
             .stdin(Stdio::null());
         command
@@ -231,6 +262,13 @@ impl Tree {
     pub fn called(&self) -> Vec<String> {
         let short = |call: String| call.split(' ').take(2).collect::<Vec<_>>().join(" ");
         self.calls().into_iter().map(short).collect()
+    }
+}
+
+impl Drop for Tree {
+    fn drop(&mut self) {
+        // What cannot be removed stays.
+        let _ = fs::remove_dir_all(&self.0);
     }
 }
 

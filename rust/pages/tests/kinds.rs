@@ -1,5 +1,5 @@
 //! Three kinds of text, told apart by where they stand: what a public contract or the statement of a theorem leads to
-//! stands in `specs/`, and nothing else does; what only private functions promise stands in `specs/inside`.
+//! stands in `specs/`, and nothing else does; what only private functions promise stands in `specs/Inside`.
 
 use pages::definitions::{Definitions, Place};
 
@@ -16,9 +16,9 @@ fn place(path: &str, name: &str) -> Place {
 
 #[test]
 fn what_a_definition_names_is_reached() {
-    let first = "-- One.\nuse Rattle·a·specs.specs.inside.Two.{two, Shape, round}\n\nunfoldable pub one : ℕ\none = two\n\npub record Idle : Type 0 where\n  pub field : ℕ\n";
+    let first = "-- One.\nuse Rattle.a.specs.Inside.Two.{two, Shape, round}\n\nunfoldable pub one : ℕ\none = two\n\npub record Idle : Type 0 where\n  pub field : ℕ\n";
     let second = "abbrev pub two : ℕ\ntwo = half round -- idle\n\nabbrev half : ℕ\nhalf = 1\n\npub data Shape : Type 0 where\n  round : Shape\n\nabbrev pub idle : ℕ\nidle = 0\n";
-    let texts = [("One", first), ("inside/Two", second)];
+    let texts = [("One", first), ("Inside/Two", second)];
     let definitions = Definitions::of(
         texts
             .into_iter()
@@ -26,10 +26,10 @@ fn what_a_definition_names_is_reached() {
     );
     let reached = definitions.reached([place("One", "one")].into());
     let expected = [
+        place("Inside/Two", "Shape"),
+        place("Inside/Two", "half"),
+        place("Inside/Two", "two"),
         place("One", "one"),
-        place("inside/Two", "Shape"),
-        place("inside/Two", "half"),
-        place("inside/Two", "two"),
     ];
     assert_eq!(reached.into_iter().collect::<Vec<_>>(), expected);
     assert_eq!(definitions.all().count(), 6);
@@ -49,7 +49,7 @@ fn each_definition_stands_where_its_kind_does() {
     roots.extend(stated);
     let believed = definitions.reached(roots);
     let all: Vec<Place> = definitions.all().collect();
-    let inside = |place: &Place| place.0 .1.starts_with("inside/");
+    let inside = |place: &Place| place.0 .1.starts_with("Inside/");
     let wrong: Vec<&Place> = believed.iter().filter(|place| inside(place)).collect();
     assert!(
         wrong.is_empty(),

@@ -10,8 +10,18 @@ const DESKS: &str = "target/rust/release/desks";
 const LIBRARY: &str = "target/staticlib/libcuwelfra.a";
 const PAGE: &str = "docs/BENCHMARKS.md";
 
+/// How the library is made, a call for each of its crates, and then a program.
+const BOTH: [&str; 6] = [
+    "rt lib",
+    "rt lib",
+    "rt lib",
+    "rt lib",
+    "rt lib",
+    "cargo build",
+];
+
 fn tree(name: &str) -> Tree {
-    Tree::new(env!("CARGO_TARGET_TMPDIR"), name)
+    Tree::new(name)
 }
 
 /// A tree without these tools.
@@ -54,6 +64,7 @@ fn a_fresh_program_starts_at_once() {
     // What is newer and goes into neither counts for nothing.
     tree.write("crates/row/must-fail/one.edit", "");
     tree.write("rust/bench/src/main.rs", "");
+    tree.write("crates/row/out/kept", "");
     ends_well(&tree.run("run", "log"));
     assert!(tree.called().is_empty());
     // Also without a library, and without tools.
@@ -111,7 +122,7 @@ fn what_is_newer_is_built_once() {
         tree.age(LIBRARY, 2);
         tree.age(path, 4);
         ends_well(&tree.run("run", "log"));
-        assert_eq!(tree.called(), ["rt staticlib", "cargo build"], "{path}");
+        assert_eq!(tree.called(), BOTH, "{path}");
         ends_well(&tree.run("run", "log"));
         assert!(tree.called().is_empty(), "{path}");
         tree.age(path, 1);
@@ -120,10 +131,9 @@ fn what_is_newer_is_built_once() {
 
 #[test]
 fn a_source_that_changes_meanwhile_is_newer() {
-    let both = ["rt staticlib", "cargo build"];
     for (tool, source, called) in [
-        ("rt", "crates/row/src/lib.rt", both.to_vec()),
-        ("cargo", "include/cuwelfra.h", both[1..].to_vec()),
+        ("rt", "crates/row/src/lib.rt", BOTH.to_vec()),
+        ("cargo", "include/cuwelfra.h", BOTH[5..].to_vec()),
     ] {
         let tree = tree(&format!("meanwhile-{tool}"));
         let text = tree.read(&format!("../tools/{tool}"));
@@ -245,7 +255,7 @@ fn the_proofs_are_told_as_they_go() {
         let expected = [
             "stubs proved; 1 of 5, 4 min left",
             "row proved; 2 of 5, 3 min left",
-            "log proved; 3 of 5, 2 min left",
+            "replicated_log proved; 3 of 5, 2 min left",
             "middle proved; 4 of 5, 1 min left",
         ];
         assert_eq!(progress(&ran.err), expected, "{ran:?}");
@@ -270,8 +280,9 @@ fn the_proofs_are_told_as_they_go() {
 fn the_guess_follows_the_pace() {
     let tree = tree("pace");
     let rt = tree.read("../tools/rt");
-    let slow = rt.replace("(50 s)", "(500 s)");
-    let slow = slow.replace("(79 s)", "(unchanged since it was last proved)");
+    let slow = rt.replace("took=50", "took=500");
+    // Where nothing has changed nothing is written.
+    let slow = slow.replace("took=79", "took=unchanged");
     tree.tool("rt", &slow);
     tree.remove(LIBRARY);
     tree.remove(DESKS);
@@ -281,13 +292,14 @@ fn the_guess_follows_the_pace() {
         // 531 s for what was measured with 81: 182 s are to come.
         "row proved; 2 of 5, 20 min left",
         // 103 s, at the same pace.
-        "log proved; 3 of 5, 11 min left",
+        "replicated_log proved; 3 of 5, 11 min left",
         // 559 s for 109: 75 s.
         "middle proved; 4 of 5, 6 min left",
     ];
     assert_eq!(progress(&ran.err), expected, "{ran:?}");
     // Never less than a minute.
-    let fast = rt.replace("(50 s)", "(0 s)").replace("(79 s)", "(0 s)");
+    let fast = rt.replace("took=50", "took=0");
+    let fast = fast.replace("took=79", "took=0");
     tree.tool("rt", &fast);
     tree.age("crates.txt", 4);
     tree.age(LIBRARY, 2);
@@ -475,15 +487,58 @@ fn the_test_command_counts_all_its_parts() {
         "<> <{caller}/original> <{caller}/documents> <-C debuginfo=1 -D warnings> <--cfg mine -D warnings>"
     );
     let expected = [
-        "rt fmt --check".to_string(),
         "rt ci".to_string(),
-        "rt staticlib cuwelfra".to_string(),
+        "rt lib".to_string(),
+        "rt lib".to_string(),
+        "rt lib".to_string(),
+        "rt lib".to_string(),
+        "rt lib".to_string(),
         format!("cargo build {given}"),
         format!("cargo test {given}"),
         format!("cargo doc {given}"),
     ];
     assert_eq!(tree.calls(), expected);
     assert_eq!(tree.read("example.store"), "a user's");
+    assert_eq!(tree.read(LIBRARY), "a library\n");
+}
+
+/// What was made earlier is there while the crates are proved, and is then made anew.
+#[test]
+fn the_test_command_makes_all_anew() {
+    let tree = tree("anew");
+    tree.write("target/old", "");
+    let rt = tree.read("../tools/rt");
+    let looking =
+        "[ -f target/old ] && [ ! -d crates/row/out ] || exit 1\n    mkdir -p crates/row/out";
+    tree.tool("rt", &rt.replace("mkdir -p crates/row/out", looking));
+    ends_well(&tree.run("test", ""));
+    assert!(!tree.path("target/old").exists());
+}
+
+#[test]
+fn the_test_command_counts_no_bad_edit() {
+    for (name, edits, told) in [
+        ("one", "7 refused, 1 bad; every", "edits are bad: rt: ok; "),
+        (
+            "many",
+            "7 refused, 2 of them only by a limit, 12 bad; every",
+            "12 bad",
+        ),
+        ("all", "0 refused, 10 bad; done", "10 bad"),
+    ] {
+        let tree = tree(&format!("bad-{name}"));
+        let rt = tree.read("../tools/rt");
+        tree.tool("rt", &rt.replace("1 refused; every", edits));
+        ends_with(&tree.run("test", ""), 1, told);
+        assert_eq!(tree.called(), ["rt ci"]);
+    }
+    let tree = tree("bad-none");
+    let rt = tree.read("../tools/rt");
+    tree.tool(
+        "rt",
+        &rt.replace("1 refused; every", "7 refused, 0 bad; every"),
+    );
+    ends_well(&tree.run("test", ""));
 }
 
 #[test]
@@ -497,11 +552,17 @@ fn the_test_command_needs_its_tools_first() {
 
 #[test]
 fn the_test_command_fails_where_nothing_is_counted() {
-    for (tool, line, told) in [
-        ("cargo", "test result", "cargo has counted no tests"),
-        ("rt", "3 passed", "the last line does not match"),
+    for (name, tool, line, told) in [
+        (
+            "tests",
+            "cargo",
+            "test result",
+            "cargo has counted no tests",
+        ),
+        ("proofs", "rt", "3 passed", "the last line does not match"),
+        ("edits", "rt", "rt: ok", "how the must-fail edits went"),
     ] {
-        let tree = tree(&format!("uncounted-{tool}"));
+        let tree = tree(&format!("uncounted-{name}"));
         let text = tree.read(&format!("../tools/{tool}"));
         tree.tool(tool, &text.replace(line, "nothing"));
         ends_with(&tree.run("test", ""), 1, told);

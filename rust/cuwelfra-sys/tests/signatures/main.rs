@@ -153,7 +153,7 @@ fn no_declaration_is_passed_over() {
     let exports = texts.exports().expect("readable exports").functions.len();
     assert!(exports > 0, "no export was found");
     assert_eq!(exports, lines_with(&texts.rattle, "extern \"C\" fn "));
-    assert_eq!(exports, lines_with(&texts.rattle, "#[no_mangle]"));
+    assert_eq!(exports, lines_with(&texts.rattle, "#[unsafe(no_mangle)]"));
 
     let header = texts.header().expect("a readable header");
     assert_eq!(

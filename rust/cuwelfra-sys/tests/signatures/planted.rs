@@ -11,24 +11,24 @@ pub struct WrittenTold {
 }
 
 fn helper(v: u64) -> u64
-    ensures { λ r. ⌜ r ≡ v ⌝ }
+    ensures { result ≡ v }
 {
     v
 }
 
-#[no_mangle]
+#[unsafe(no_mangle)]
 pub extern "C" fn cuwelfra_put<'a>(
     out: &mut [u8],
     at: u64,
     v: u64,
     bytes: &'a [u8],
 ) -> WrittenTold
-    ensures { λ r. ⌜ WritesTold (now (out .entry)) at v r (now (out .exit)) ⌝ }
+    ensures { WritesTold out.old at v result out.new }
 {
     written(out, at, v, bytes)
 }
 
-#[no_mangle]
+#[unsafe(no_mangle)]
 pub extern "C" fn cuwelfra_check(log: &[u8], ms: u64) -> error::Told
 {
     check(log, ms)
@@ -166,7 +166,7 @@ const HEADER_CHECK: &str =
     "cuwelfra_told cuwelfra_check(const uint8_t *log, size_t log_len, uint64_t now);";
 const SYS_CHECK: &str =
     "pub fn cuwelfra_check(log: *const u8, log_len: usize, now: u64) -> crate::Told;";
-const RATTLE_CHECK: &str = "#[no_mangle]\npub extern \"C\" fn cuwelfra_check(";
+const RATTLE_CHECK: &str = "#[unsafe(no_mangle)]\npub extern \"C\" fn cuwelfra_check(";
 
 #[test]
 fn sound_texts_agree() {
@@ -381,10 +381,10 @@ fn what_cannot_be_read_is_named() {
         in_header("    return v;\n}", "    return v;"),
         ["the header: it ends too early"]
     );
-    let plain = in_rattle("#[no_mangle]\npub extern", "pub extern");
+    let plain = in_rattle("#[unsafe(no_mangle)]\npub extern", "pub extern");
     assert_eq!(
         plain,
-        ["the Rattle source: cuwelfra_put is extern without #[no_mangle]"]
+        ["the Rattle source: cuwelfra_put is extern without #[unsafe(no_mangle)]"]
     );
 }
 

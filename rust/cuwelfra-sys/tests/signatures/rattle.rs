@@ -51,11 +51,14 @@ fn functions(source: &[Token]) -> Result<Vec<Declaration>, String> {
     let mut found = Vec::new();
     let mut cursor = Cursor::new(source);
     while !cursor.is_done() {
-        if cursor.eat(&["#", "[", "no_mangle", "]"]) {
+        if cursor.eat(&["#", "[", "unsafe", "(", "no_mangle", ")", "]"]) {
             cursor.expect(&["pub", "extern", "\"C\"", "fn"])?;
             found.push(function(&mut cursor)?);
         } else if cursor.eat(&["extern", "\"C\"", "fn"]) {
-            return Err(format!("{} is extern without #[no_mangle]", cursor.next()?));
+            return Err(format!(
+                "{} is extern without #[unsafe(no_mangle)]",
+                cursor.next()?
+            ));
         } else {
             cursor.next()?;
         }
