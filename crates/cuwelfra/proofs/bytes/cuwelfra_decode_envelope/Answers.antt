@@ -1,0 +1,7 @@
+use mathlib.Core.Path.{◌≡◌, ◌∙◌, ap}
+use Rattle.cuwelfra.specs.Bytes.{envelope_told}
+use borrow.Author.Rules.{rules}
+use Rattle.cuwelfra.proofs.bytes.cuwelfra_decode_envelope.Goals as goal
+
+pub returns : goal.returns
+returns c = c.envelope_told.ensures ∙ ap envelope_told c.decode_envelope.ensures

@@ -1,0 +1,8 @@
+use Rattle.cuwelfra.proofs.StoreLaws.{leaves_number}
+use mathlib.Core.Path.{◌≡◌, ◌∙◌, ap, sym, refl}
+use Rattle.cuwelfra.specs.Vectors.{count_told}
+use borrow.Author.Rules.{rules}
+use Rattle.cuwelfra.proofs.changes.cuwelfra_compact.Goals as goal
+
+pub returns : goal.returns
+returns c = leaves_number _ _ _ _ _ c.compact.result c.stamp_by-cutoff.ensures c.compact.ensures c.clock_told.ensures

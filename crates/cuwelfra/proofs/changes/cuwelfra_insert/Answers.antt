@@ -1,0 +1,8 @@
+use mathlib.Core.Path.{◌≡◌, ◌∙◌, ap, sym, refl}
+use Rattle.error.specs.Answer.{told_by}
+use Rattle.cuwelfra.proofs.ExportLaws.{exports}
+use borrow.Author.Rules.{rules}
+use Rattle.cuwelfra.proofs.changes.cuwelfra_insert.Goals as goal
+
+pub returns : goal.returns
+returns c = exports told_by _ _ _ _ c.outcome_told.ensures c.insert.ensures

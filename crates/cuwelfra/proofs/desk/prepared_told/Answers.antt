@@ -1,0 +1,6 @@
+use Rattle.cuwelfra.proofs.DeskLaws.{row_told_lem}
+use borrow.Author.Rules.{rules}
+use Rattle.cuwelfra.proofs.desk.prepared_told.Goals as goal
+
+pub returns : goal.returns
+returns c = row_told_lem _ _ c.outcome_told.ensures

@@ -1,0 +1,9 @@
+use mathlib.Core.Path.{◌≡◌, ◌∙◌, ap}
+use Rattle.clock.specs.Hybrid.{now_call}
+use Rattle.clock.specs.declared.hybrid.HybridClock.{HybridClock}
+use Rattle.cuwelfra.specs.Hybrids.{issued_told}
+use borrow.Author.Rules.{rules}
+use Rattle.cuwelfra.proofs.hybrid.cuwelfra_hybrid_now.Goals as goal
+
+pub returns : goal.returns
+returns c = c.issued_told.ensures ∙ ap issued_told (rw c.clock_by.ensures at c.now.ensures)

@@ -1,0 +1,7 @@
+use mathlib.Core.Path.{◌≡◌, ◌∙◌, ap, sym, refl}
+use Rattle.cuwelfra.specs.Hybrids.{updated_told}
+use borrow.Author.Rules.{rules}
+use Rattle.cuwelfra.proofs.hybrid.cuwelfra_hybrid_update.Goals as goal
+
+pub returns : goal.returns
+returns c = c.updated_told.ensures ∙ ap updated_told (rw (c.clock_by.ensures, c.stamp_by.ensures) at c.update.ensures)

@@ -1,0 +1,7 @@
+use mathlib.Core.Path.{◌≡◌, ◌∙◌, ap, sym, refl}
+use Rattle.cuwelfra.specs.Stores.{stamp_told}
+use borrow.Author.Rules.{rules}
+use Rattle.cuwelfra.proofs.store.cuwelfra_watermark.Goals as goal
+
+pub returns : goal.returns
+returns c = c.stamp_told.ensures ∙ ap stamp_told c.watermark.ensures
