@@ -1,6 +1,6 @@
 -- What each answer of a hybrid clock's calls comes to, a law for each outcome.
 use Prim.Native.Nat.{ℕ, ◌+◌, ◌<◌, ◌≤◌}
-use mathlib.Core.Path.{◌≡◌}
+use mathlib.Core.Path.{◌≡◌, sym, ap, ◌∙◌}
 use native.Mathlib.Omega.{arith}
 use lib.Dec.{ltb}
 use borrow.Author.Tests.{lt-ltb, le-ltb, le-leb, lt-leb, eq-eqb, ne_eqb}
@@ -50,8 +50,8 @@ module _ (j : Hlc) (l : ℕ) where
 -- sending, at what the code has computed: the wall and the counter
 module _ (j : HybridClock) (pt wall counter : ℕ) (w : wall ≡ greater j.last_wall pt) (n : counter ≡ send_c (hlc_of j) wall) where
   sent : send_event (hlc_of j) pt ≡ record { l = wall; c = counter }
-  unfolding send_event send_l
-  sent = rw (← w, ← n)
+  unfolding send_event send_c
+  sent = λ i. record { l = sym w i; c = (ap (send_c (hlc_of j)) (sym w) ∙ sym n) i }
 
   pub now_moved : counter < 4294967296 → now_call j pt ≡ stamped_at j (record { l = wall; c = counter })
   unfolding now_call issue_at

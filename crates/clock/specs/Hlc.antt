@@ -27,8 +27,12 @@ unfoldable pub send_c : (j : Hlc) → Time → ℕ
 send_c j l = pick (eqb l j.l) (j.c + 1) 0
 
 -- the clock after the event, and the event's stamp
-unfoldable pub send_event : (j : Hlc) → Time → Hlc
-send_event j pt = record { l = send_l j pt; c = send_c j (send_l j pt) }
+unfoldable pub send_event : Hlc → Time → Hlc
+send_event j pt =
+    record {
+      l = greater j.l pt;
+      c = pick (eqb (greater j.l pt) j.l) (j.c + 1) 0;
+    }
 
 -- paper: "Receive event of message m"; "l'.j := l.j; l.j := max(l'.j, l.m, pt.j)"
 unfoldable pub receive_l : (j m : Hlc) → Time → Time

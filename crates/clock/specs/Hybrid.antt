@@ -39,7 +39,7 @@ stamped_at j e = ends (done (stamp_of_event j e)) (moved_to j e)
 
 -- sending: the paper's event at e, where its counter fits
 unfoldable pub issue_at : HybridClock → Hlc → Ends Timestamp HybridClock
-issue_at j e = pick (ltb e.c (2 ^ 32)) (stamped_at j e) (ends (refused CounterOverflow) j)
+issue_at j e = pick (ltb e.c (2 ^ 32)) (ends (done (stamp_of_event j e)) (moved_to j e)) (ends (refused CounterOverflow) j)
 
 unfoldable pub now_call : HybridClock → Time → Ends Timestamp HybridClock
 now_call j pt = issue_at j (send_event (hlc_of j) pt)

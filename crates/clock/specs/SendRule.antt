@@ -9,7 +9,7 @@ use Rattle.clock.specs.declared.stamp.Timestamp.{Timestamp}
 use Rattle.clock.specs.declared.hybrid.HybridClock.{HybridClock}
 
 -- 01: "Sending: a later physical time gives counter 0, else one more." rs: "if physical > self.last_wall { self.last_wall = physical;
--- self.last_counter = 0; } else { self.last_counter = self.last_counter .checked_add(1) .ok_or(ClockError::CounterOverflow)?; }"
+-- self.last_counter = 0; } else { self.last_counter = self .last_counter .checked_add(1) .ok_or(ClockError::CounterOverflow)?; }"
 unfoldable pub now_as_rust : HybridClock → Time → Ends Timestamp HybridClock
 now_as_rust j pt =
     pick (ltb j.last_wall pt) (stamped_at j (record { l = pt; c = 0 }))

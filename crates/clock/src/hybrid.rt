@@ -2,7 +2,8 @@
 // the paper's l and a counter its c; `own` is node j before the event, `remote` the message m, `physical` the time pt.j.
 ghost use Rattle.std.specs.Prelude.{◌≡◌};
 ghost use Rattle.clock.specs.Hlc.{greater, send_c, receive_c};
-ghost use Rattle.clock.specs.Hybrid.{hlc_of, stamp_hlc, new_clock, moved_to, stamped_at, issued_of, now_call, updated_of, update_call};
+ghost use Rattle.error.specs.Answer.{done, ends};
+ghost use Rattle.clock.specs.Hybrid.{hlc_of, stamp_hlc, new_clock, moved_to, stamp_of_event, issued_of, now_call, updated_of, update_call};
 ghost use Rattle.words.specs.Choice.{saturating};
 
 use crate::stamp::Timestamp;
@@ -105,7 +106,7 @@ impl HybridClock {
 
     // The stamp of that wall time and counter, with the clock moved to it.
     fn issue(self, wall: u64, counter: u32) -> Issued
-        ensures { issued_of result ≡ stamped_at self (record { l = wall; c = counter }) }
+        ensures { issued_of result ≡ ends (done (stamp_of_event self (record { l = wall; c = counter }))) (moved_to self (record { l = wall; c = counter })) }
     {
         let actor = self.actor;
         let clock = self.moved(wall, counter);
@@ -165,7 +166,7 @@ impl HybridClock {
         }
         let own_wall = self.last_wall; // paper: "l'.j := l.j;"
         let wall = greater(greater(own_wall, remote_wall), physical); // paper: "l.j := max(l'.j, l.m, pt.j)"
-        let counter = self.receive_counter(remote, wall);
+        let counter = self.next_counter(remote, wall);
         if counter > 4294967295 {
             return Updated::Refused {
                 refusal: Refusal::CounterOverflow,
@@ -176,7 +177,7 @@ impl HybridClock {
     }
 
     // The counter after a remote stamp is taken in and the new wall time is `wall`. It may be one more than 32 bits hold.
-    fn receive_counter(self, remote: Timestamp, wall: u64) -> u64
+    fn next_counter(self, remote: Timestamp, wall: u64) -> u64
         ensures { result ≡ receive_c (hlc_of self) (stamp_hlc remote) wall }
     {
         let own_wall = self.last_wall;

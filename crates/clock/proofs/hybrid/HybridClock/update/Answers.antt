@@ -11,11 +11,11 @@ pub returns-then-counter-gt4294967295 : goal.returns-then-counter-gt4294967295
 returns-then-counter-gt4294967295 c =
     sym
     (update_full _ _ _ _ c.saturating_add.ensures _ _ _ c.greater.ensures c.greater-wall.ensures
-    c.receive_counter-counter.ensures (omega arith) (omega arith))
+    c.next_counter-counter.ensures (omega arith) (omega arith))
 
 pub returns : goal.returns
 returns c =
     rw c.moved.ensures
     (sym
     (update_moved _ _ _ _ c.saturating_add.ensures _ _ _ c.greater.ensures c.greater-wall.ensures
-    c.receive_counter-counter.ensures (omega arith) (omega arith)))
+    c.next_counter-counter.ensures (omega arith) (omega arith)))

@@ -5,7 +5,7 @@ use Prim.Native.Nat.{ℕ, ◌+◌}
 use Rattle.clock.proofs.HybridLaws.{max_below, counter_both, counter_own, counter_remote, counter_none}
 use borrow.Author.Rules.{rules}
 use borrow.Author.Tests.{eqb-true, eqb-false}
-use Rattle.clock.proofs.hybrid.HybridClock.receive_counter.Goals as goal
+use Rattle.clock.proofs.hybrid.HybridClock.next_counter.Goals as goal
 
 pub overflow_add-result : goal.overflow_add-result
 overflow_add-result c = omega (arith, max_below _ _ _ c.greater.ensures)
