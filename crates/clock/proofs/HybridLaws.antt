@@ -8,7 +8,7 @@ use mathlib.Core.Logic.{inl, inr}
 use Rattle.words.proofs.Words.{test}
 use Rattle.error.specs.declared.Refusal.TheVariants.{CounterOverflow, RemoteAhead}
 use Rattle.error.specs.Answer.{done, refused, nothing}
-use Rattle.clock.specs.Hlc.{Hlc, greater, send_l, send_c, send_event, receive_l, receive_c, receive_event}
+use Rattle.clock.specs.Hlc.{Hlc, greater, send_c, send_event, receive_l, receive_c, receive_event}
 use Rattle.clock.specs.Hybrid.{hlc_of, stamp_hlc, moved_to, stamped_at, issue_at, now_call, receive_at, update_call}
 use Rattle.clock.specs.declared.stamp.Timestamp.{Timestamp}
 use Rattle.clock.specs.declared.hybrid.HybridClock.{HybridClock}

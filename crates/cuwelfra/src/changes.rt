@@ -1,4 +1,4 @@
-// Calls that change the log: crate log.
+// Calls that change the log: crate replicated_log.
 ghost use Rattle.std.specs.Prelude.{◌≡◌};
 ghost use Rattle.error.specs.Answer.{told_by};
 ghost use Rattle.replicated_log.specs.Areas.{areas};

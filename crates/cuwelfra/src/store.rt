@@ -1,4 +1,4 @@
-// Questions to a store, and lookup: crate log. A store goes as its three areas.
+// Questions to a store, and lookup: crate replicated_log. A store goes as its three areas.
 ghost use Rattle.std.specs.Prelude.{◌≡◌, ◌≤◌, length};
 ghost use Rattle.words.specs.Names.{Clock};
 ghost use Rattle.error.specs.Answer.{Answer, accepted, told_by};

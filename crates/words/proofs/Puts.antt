@@ -1,13 +1,13 @@
 -- Laws of put_at: writes one after the other, in loops and into zeros.
-use Prim.Native.Nat.{ℕ, zero, suc, ◌+◌, ◌-◌, ◌*◌, ◌≤◌, ◌<◌}
-use mathlib.Core.Path.{◌≡◌, refl, sym, ◌∙◌, ap}
+use Prim.Native.Nat.{ℕ, ◌+◌, ◌-◌, ◌*◌, ◌≤◌, ◌<◌}
+use mathlib.Core.Path.{◌≡◌, refl, sym, ◌∙◌}
 use mathlib.Core.List.{List, [], ◌∷◌, ◌++◌, append_assoc, append-nil}
-use mathlib.Core.Logic.{◌⊎◌, inl, inr}
-use native.Mathlib.Nat.{add-zero, add-suc, suc-add, zero-add}
+use mathlib.Core.Logic.{inl, inr}
+use native.Mathlib.Nat.{add-zero}
 use native.Mathlib.Numerals.{add-one}
 use native.Mathlib.Omega.{arith}
 use lib.ListN.{length, take, drop, get_or, set, replicate, length-append, length-take, length-drop, length-replicate, take-append-drop, replicate-append-replicate}
-use lib.Seq.{take-suc, take-length, take_at, drop_at, drop-drop, length-take-le, paste, paste-zero, paste-suc, get_or-set_same, get_or-set_other}
+use lib.Seq.{take-suc, take-length, take_at, drop_at, drop-drop, length-take-le, paste, paste-suc, get_or-set_same, get_or-set_other}
 use Rattle.words.specs.Be.{be64, bes}
 use Rattle.words.specs.Areas.{pad, put_at}
 use Rattle.words.proofs.Words.{lt_or_le}

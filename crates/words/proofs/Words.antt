@@ -1,16 +1,16 @@
 -- Laws of words: what is put is what is got, and back; a padded field.
 use Prim.Native.Nat.{ℕ, zero, suc, ◌+◌, ◌-◌, ◌*◌, ◌/◌, ◌%◌, ◌≤◌, ◌<◌}
 use mathlib.Core.Path.{◌≡◌, refl, sym, ◌∙◌, ap}
-use mathlib.Core.List.{List, [], ◌∷◌, ◌++◌, append_assoc, append-nil}
+use mathlib.Core.List.{List, [], ◌∷◌, ◌++◌}
 use native.Mathlib.Omega.{arith}
-use lib.ListN.{length, take, drop, get_or, set, replicate, length-append, length-take, length-drop, length-replicate, get_or-replicate, take-append-drop, get_or-eq_default}
+use lib.ListN.{length, take, drop, get_or, set, replicate, length-append, length-take, length-drop, length-replicate, get_or-replicate, get_or-eq_default}
 use lib.Seq.{drop-cons, take-add, drop-drop, length-take-le, sets-eq, get_or-take, get_or-drop, ext_get_or}
 use mathlib.Core.Logic.{◌⊎◌, inl, inr}
 use mathlib.Core.Bool.{Bool, true, false, not}
 use lib.Dec.{ltb}
 use borrow.Author.Tests.{ltb-true, ltb-false}
 use Rattle.words.specs.Be.{AllBytes, be64, get64, bes, words_at}
-use Rattle.words.specs.Areas.{pad, put_at, Zero}
+use Rattle.words.specs.Areas.{pad, Zero}
 use Rattle.words.specs.Choice.{Tells}
 use Rattle.words.specs.Choice.Tells.{is_true, is_false}
 use Rattle.words.specs.Inside.Moves.{ZeroIn, get32}

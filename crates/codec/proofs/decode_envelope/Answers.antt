@@ -1,5 +1,4 @@
 use mathlib.Core.Path.{◌∙◌}
-use borrow.Author.Rules.{rules}
 use Rattle.codec.proofs.ReadSteps.{value_read, value_refused, sender_read, sender_refused}
 use Rattle.codec.proofs.decode_envelope.Goals as goal
 

@@ -1,5 +1,4 @@
 use mathlib.Core.Path.{refl}
-use borrow.Author.Rules.{rules}
 use Rattle.codec.specs.Inside.EnvelopeParts.{read_parts}
 use Rattle.codec.proofs.ReadSteps.{on, off, part_read, part_refused, shut, next, halt, finish_done, finish_refused}
 use Rattle.codec.proofs.decode_parts.Goals as goal

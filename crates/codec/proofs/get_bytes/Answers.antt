@@ -1,6 +1,5 @@
 use mathlib.Core.Path.{refl}
 use native.Mathlib.Omega.{arith}
-use borrow.Author.Rules.{rules}
 use Rattle.codec.specs.Reading.{get_bytes}
 use Rattle.codec.proofs.ReadSteps.{on, off, value_read, value_refused}
 use Rattle.codec.proofs.RoundTrip.{count_inside}

@@ -1,6 +1,5 @@
 use mathlib.Core.Path.{refl}
 use borrow.Author.Tests.{le-leb, lt-leb}
-use borrow.Author.Rules.{rules}
 use Rattle.codec.specs.Reading.{get_count}
 use Rattle.codec.proofs.ReadSteps.{both, not_first, not_second, on, off, pass, fail, value_read, value_refused}
 use Rattle.codec.proofs.RoundTrip.{varint_read}

@@ -1,5 +1,4 @@
 use mathlib.Core.Path.{◌∙◌}
-use borrow.Author.Rules.{rules}
 use Rattle.codec.proofs.LastByte.{u32_within}
 use Rattle.codec.proofs.get_u32.Goals as goal
 

@@ -1,5 +1,4 @@
 use borrow.Author.Tests.{lt-ltb, le-ltb}
-use borrow.Author.Rules.{rules}
 use Rattle.codec.specs.Reading.{get_u8}
 use Rattle.codec.proofs.get_u8.Goals as goal
 

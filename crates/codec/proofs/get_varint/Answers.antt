@@ -1,5 +1,4 @@
 use mathlib.Core.Path.{◌∙◌}
-use borrow.Author.Rules.{rules}
 use Rattle.codec.proofs.LastByte.{varint_within}
 use Rattle.codec.proofs.get_varint.Goals as goal
 

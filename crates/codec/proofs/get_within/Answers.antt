@@ -1,11 +1,9 @@
-use Prim.Native.Nat.{◌-◌}
 use mathlib.Core.Path.{refl, sym, ◌∙◌}
 use mathlib.Core.Logic.{⊎_elim}
 use native.Mathlib.Omega.{arith}
-use lib.ListN.{length}
 use borrow.Author.Rules.{rules}
 use borrow.Author.Tests.{ltb-true, ltb-false}
-use Rattle.codec.proofs.VarintLoop.{Going, start, ended, many, big, room, last, again}
+use Rattle.codec.proofs.VarintLoop.{start, ended, many, big, room, last, again}
 use Rattle.codec.proofs.LastByte.{padding, above, padded, shortest_read, within_refused}
 use Rattle.codec.proofs.get_within.Goals as goal
 

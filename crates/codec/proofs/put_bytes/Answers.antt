@@ -1,4 +1,3 @@
-use borrow.Author.Rules.{rules}
 use Rattle.codec.proofs.WriterLaws.{next_room, refused_room, wrote, short_area, length_sized}
 use Rattle.codec.proofs.put_bytes.Goals as goal
 

@@ -1,6 +1,5 @@
 use mathlib.Core.Path.{refl}
 use native.Mathlib.Omega.{arith}
-use borrow.Author.Rules.{rules}
 use Rattle.codec.proofs.WriterLaws.{wrote, short_area, put_one}
 use Rattle.codec.proofs.put_u8.Goals as goal
 

@@ -1,5 +1,4 @@
 use native.Mathlib.Omega.{arith}
-use borrow.Author.Rules.{rules}
 use Rattle.codec.proofs.WriterLaws.{next_room, refused_room, wrote, short_area}
 use Rattle.codec.proofs.put_varint.Goals as goal
 

@@ -1,4 +1,3 @@
-use borrow.Author.Rules.{rules}
 use Rattle.codec.proofs.WriterLaws.{sender_room, body_room, sig_room, envelope_stored}
 use Rattle.codec.proofs.store_envelope.Goals as goal
 

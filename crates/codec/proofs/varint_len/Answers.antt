@@ -1,6 +1,5 @@
 use native.Mathlib.Omega.{arith}
 use lib.Count.{leading_le}
-use borrow.Author.Rules.{rules}
 use Rattle.codec.proofs.WriterLaws.{length_bits}
 use Rattle.codec.proofs.varint_len.Goals as goal
 

@@ -3,7 +3,6 @@ use mathlib.Core.Path.{◌≡◌}
 use native.Mathlib.Omega.{arith}
 use native.Mathlib.Nat.{mod-eq_of_lt}
 use lib.Bits.{bit_or, or_shifted_r}
-use borrow.Author.Rules.{rules}
 use Rattle.codec.proofs.with_group.Goals as goal
 
 joined : (v p k : ℕ) → v < 2 ^ k → p * 2 ^ k < 2 ^ 64 → bit_or v (p * 2 ^ k % 18446744073709551616) ≡ v + p * 2 ^ k

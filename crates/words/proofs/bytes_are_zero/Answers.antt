@@ -1,10 +1,8 @@
 use borrow.Author.Rules.{rules}
-use Prim.Native.Nat.{◌+◌, ◌-◌}
+use Prim.Native.Nat.{◌+◌}
 use native.Mathlib.Omega.{arith}
-use lib.ListN.{length}
 use Rattle.words.specs.Choice.Tells.{is_true, is_false}
 use Rattle.words.proofs.Words.{in_join, in_none, in_one, zero_in, zero_all}
-use Rattle.words.specs.Inside.Moves.{ZeroIn}
 use Rattle.words.proofs.bytes_are_zero.Goals as goal
 
 pub loop-i-init : goal.loop-i-init

@@ -1,9 +1,6 @@
 use borrow.Author.Rules.{rules}
-use Prim.Native.Nat.{ℕ, ◌+◌, ◌-◌, ◌*◌, ◌≤◌, ◌<◌}
-use mathlib.Core.Path.{◌≡◌, sym}
 use native.Mathlib.Omega.{arith}
-use lib.ListN.{length}
-use Rattle.words.proofs.Moves.{zeroed, zero_none, zero_turn, zeroed_all}
+use Rattle.words.proofs.Moves.{zero_none, zero_turn, zeroed_all}
 use Rattle.words.proofs.zero.Goals as goal
 
 pub loop-i-init : goal.loop-i-init

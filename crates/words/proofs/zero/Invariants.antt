@@ -1,9 +1,7 @@
-use borrow.Author.Rules.{rules}
-use Prim.Native.Nat.{ℕ, ◌+◌, ◌-◌, ◌*◌, ◌≤◌, ◌<◌}
-use mathlib.Core.Path.{◌≡◌, sym}
-use native.Mathlib.Omega.{arith}
+use Prim.Native.Nat.{◌-◌, ◌≤◌}
+use mathlib.Core.Path.{◌≡◌}
 use lib.ListN.{length}
-use Rattle.words.proofs.Moves.{zeroed, zero_none, zero_turn, zeroed_all}
+use Rattle.words.proofs.Moves.{zeroed}
 use Rattle.words.proofs.zero.Given as goal
 
 abbrev pub invariant-loop-i : goal.invariant-loop-i

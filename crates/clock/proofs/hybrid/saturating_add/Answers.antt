@@ -1,7 +1,6 @@
 use mathlib.Core.Path.{sym}
 use native.Mathlib.Omega.{arith}
 use Rattle.clock.proofs.HybridLaws.{sum_fits, sum_full}
-use borrow.Author.Rules.{rules}
 use Rattle.clock.proofs.hybrid.saturating_add.Goals as goal
 
 pub returns-then-b-a : goal.returns-then-b-a

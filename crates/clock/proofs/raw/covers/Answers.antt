@@ -1,12 +1,8 @@
 use borrow.Author.Rules.{rules}
-use Prim.Native.Nat.{ℕ, ◌-◌, ◌≤◌}
 use native.Mathlib.Omega.{arith}
-use mathlib.Core.Path.{◌≡◌, refl, sym, ◌∙◌}
-use lib.ListN.{length, drop, length-map}
+use mathlib.Core.Path.{refl}
 use Rattle.clock.proofs.ClockEntries.{sound_few}
 use Rattle.clock.proofs.ClockCalls.{cover_turn, cover_not, cover_end}
-use Rattle.clock.specs.Entries.{dominates}
-use Rattle.clock.specs.Vector.{entries}
 use Rattle.clock.proofs.raw.covers.Goals as goal
 
 pub loop-i-init : goal.loop-i-init

@@ -1,10 +1,6 @@
-use borrow.Author.Rules.{rules}
-use Prim.Native.Nat.{ℕ, ◌-◌, ◌≤◌}
-use native.Mathlib.Omega.{arith}
-use mathlib.Core.Path.{◌≡◌, refl, sym, ◌∙◌}
-use lib.ListN.{length, drop, length-map}
-use Rattle.clock.proofs.ClockEntries.{sound_few}
-use Rattle.clock.proofs.ClockCalls.{cover_turn, cover_not, cover_end}
+use Prim.Native.Nat.{◌-◌, ◌≤◌}
+use mathlib.Core.Path.{◌≡◌}
+use lib.ListN.{drop}
 use Rattle.clock.specs.Entries.{dominates}
 use Rattle.clock.specs.Vector.{entries}
 use Rattle.clock.proofs.raw.covers.Given as goal

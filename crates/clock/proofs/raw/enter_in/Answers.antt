@@ -3,7 +3,6 @@ use mathlib.Core.Path.{sym, ◌∙◌}
 use Rattle.clock.specs.Inside.Columns.{in_columns}
 use Rattle.clock.proofs.ClockEntries.{sound_few}
 use Rattle.clock.proofs.ClockCalls.{here_below, gap_below, get_here, get_gap, put_here, put_full, put_gap, enter_put, enter_less}
-use borrow.Author.Rules.{rules}
 use Rattle.clock.proofs.raw.enter_in.Goals as goal
 
 pub find-place-requires : goal.find-place-requires

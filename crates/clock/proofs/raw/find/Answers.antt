@@ -1,9 +1,7 @@
 use borrow.Author.Rules.{rules}
-use Prim.Native.Nat.{◌-◌, ◌≤◌}
 use native.Mathlib.Omega.{arith}
 use mathlib.Core.Path.{refl}
-use lib.ListN.{take}
-use Rattle.clock.proofs.AuthorSearch.{Left, find_start, find_here, find_gap, find_turn, find_end}
+use Rattle.clock.proofs.AuthorSearch.{find_start, find_here, find_gap, find_turn, find_end}
 use Rattle.clock.proofs.raw.find.Goals as goal
 
 pub loop-i-init : goal.loop-i-init

@@ -1,10 +1,7 @@
-use Prim.Native.Nat.{ℕ}
 use native.Mathlib.Omega.{arith}
-use mathlib.Core.Path.{◌≡◌, sym, ◌∙◌}
-use lib.ListN.{length, length-map}
+use mathlib.Core.Path.{sym, ◌∙◌}
 use Rattle.clock.proofs.ClockEntries.{sound_few}
 use Rattle.clock.proofs.ClockCalls.{here_below, get_here, get_gap}
-use borrow.Author.Rules.{rules}
 use Rattle.clock.proofs.raw.get.Goals as goal
 
 pub find-place-requires : goal.find-place-requires

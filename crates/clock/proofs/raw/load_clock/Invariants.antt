@@ -1,12 +1,7 @@
-use borrow.Author.Rules.{rules}
 use Prim.Native.Nat.{ℕ, ◌+◌, ◌*◌, ◌-◌, ◌≤◌, ◌<◌}
-use native.Mathlib.Omega.{arith}
-use mathlib.Core.Path.{◌≡◌, refl}
-use lib.ListN.{length, get_or, length-set}
+use mathlib.Core.Path.{◌≡◌}
+use lib.ListN.{length, get_or}
 use Rattle.words.specs.Be.{get64}
-use Rattle.words.proofs.Puts.{fill_turn}
-use Rattle.clock.proofs.ClockArea.{column_is, word_moved}
-use Rattle.clock.specs.Area.{clock_at}
 use Rattle.clock.proofs.raw.load_clock.Given as goal
 
 abbrev pub invariant-loop-i : goal.invariant-loop-i

@@ -1,11 +1,9 @@
 use Rattle.clock.specs.Vector.{outcome_of}
 use borrow.Author.Rules.{rules}
-use Prim.Native.Nat.{ℕ, ◌-◌, ◌≤◌}
 use native.Mathlib.Omega.{arith}
-use mathlib.Core.Path.{◌≡◌, refl, sym, ◌∙◌, ap}
-use lib.ListN.{length, length-map}
+use mathlib.Core.Path.{refl, ap}
 use Rattle.clock.proofs.ClockEntries.{sound_few}
-use Rattle.clock.proofs.ClockCalls.{Merging, merge_start, merge_turn, merge_stop, merge_end}
+use Rattle.clock.proofs.ClockCalls.{merge_start, merge_turn, merge_stop, merge_end}
 use Rattle.clock.proofs.raw.merged.Goals as goal
 
 pub loop-i-init : goal.loop-i-init

@@ -1,7 +1,6 @@
 use Rattle.clock.specs.Entries.{observe}
 use Rattle.clock.specs.Vector.{entries}
 use Rattle.clock.proofs.ClockCalls.{grown_clock}
-use borrow.Author.Rules.{rules}
 use Rattle.clock.proofs.raw.observe.Goals as goal
 
 pub returns : goal.returns

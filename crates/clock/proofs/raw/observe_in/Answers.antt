@@ -1,6 +1,5 @@
 use Rattle.clock.specs.Inside.Columns.{in_columns}
 use Rattle.clock.proofs.ClockCalls.{observe_zero, observe_other}
-use borrow.Author.Rules.{rules}
 use Rattle.clock.proofs.raw.observe_in.Goals as goal
 
 pub returns-then-seq-eq0 : goal.returns-then-seq-eq0

@@ -1,4 +1,3 @@
-use borrow.Author.Rules.{rules}
 use mathlib.Core.Path.{sym, ◌∙◌, ap}
 use Rattle.clock.specs.Inside.Columns.{room_of}
 use Rattle.clock.proofs.raw.observed.Goals as goal

@@ -1,10 +1,6 @@
 use borrow.Author.Rules.{rules}
-use Prim.Native.Nat.{ℕ, ◌+◌, ◌-◌, ◌≤◌}
 use native.Mathlib.Omega.{arith}
-use mathlib.Core.Path.{◌≡◌, sym, ◌∙◌}
-use lib.ListN.{length, length-map}
-use Rattle.words.specs.Areas.{put_at}
-use Rattle.clock.proofs.ClockArea.{entry_bytes, store_start, store_turn, store_end}
+use Rattle.clock.proofs.ClockArea.{store_start, store_turn, store_end}
 use Rattle.clock.proofs.raw.store_clock.Goals as goal
 
 pub loop-i-init : goal.loop-i-init

@@ -1,10 +1,8 @@
-use borrow.Author.Rules.{rules}
-use Prim.Native.Nat.{ℕ, ◌+◌, ◌-◌, ◌≤◌}
-use native.Mathlib.Omega.{arith}
-use mathlib.Core.Path.{◌≡◌, sym, ◌∙◌}
-use lib.ListN.{length, length-map}
+use Prim.Native.Nat.{◌+◌, ◌-◌, ◌≤◌}
+use mathlib.Core.Path.{◌≡◌}
+use lib.ListN.{length}
 use Rattle.words.specs.Areas.{put_at}
-use Rattle.clock.proofs.ClockArea.{entry_bytes, store_start, store_turn, store_end}
+use Rattle.clock.proofs.ClockArea.{entry_bytes}
 use Rattle.clock.proofs.raw.store_clock.Given as goal
 
 abbrev pub invariant-loop-i : goal.invariant-loop-i

@@ -1,8 +1,7 @@
 use borrow.Author.Rules.{rules}
-use Prim.Native.Nat.{◌-◌, ◌≤◌}
 use native.Mathlib.Omega.{arith}
 use mathlib.Core.Path.{refl}
-use Rattle.clock.proofs.ClockRules.{Clear, clear_turn, clear_not, clear_end}
+use Rattle.clock.proofs.ClockRules.{clear_turn, clear_not, clear_end}
 use Rattle.clock.proofs.vector.clear_from.Goals as goal
 
 pub loop-i-init : goal.loop-i-init

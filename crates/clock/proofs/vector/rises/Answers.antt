@@ -1,7 +1,6 @@
 use borrow.Author.Rules.{rules}
-use Prim.Native.Nat.{◌-◌, ◌≤◌}
 use native.Mathlib.Omega.{arith}
-use Rattle.clock.proofs.ClockRules.{Rest, rises_start, rises_turn, rises_not, rises_end}
+use Rattle.clock.proofs.ClockRules.{rises_start, rises_turn, rises_not, rises_end}
 use Rattle.clock.proofs.vector.rises.Goals as goal
 
 pub loop-i-init : goal.loop-i-init

@@ -1,7 +1,5 @@
-use borrow.Author.Rules.{rules}
 use Prim.Native.Nat.{◌-◌, ◌≤◌}
-use native.Mathlib.Omega.{arith}
-use Rattle.clock.proofs.ClockRules.{Rest, rises_start, rises_turn, rises_not, rises_end}
+use Rattle.clock.proofs.ClockRules.{Rest}
 use Rattle.clock.proofs.vector.rises.Given as goal
 
 abbrev pub invariant-loop-i : goal.invariant-loop-i

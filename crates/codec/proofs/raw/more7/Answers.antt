@@ -1,6 +1,5 @@
 use native.Mathlib.Omega.{arith}
 use lib.Bits.{or_shifted_r}
-use borrow.Author.Rules.{rules}
 use Rattle.codec.proofs.raw.more7.Goals as goal
 
 pub returns : goal.returns

@@ -1,5 +1,4 @@
 use native.Mathlib.Omega.{arith}
-use borrow.Author.Rules.{rules}
 use Rattle.codec.proofs.WriterLaws.{room_no, room_yes}
 use Rattle.codec.proofs.raw.past.Goals as goal
 

@@ -1,4 +1,3 @@
-use borrow.Author.Rules.{rules}
 use Rattle.codec.specs.Inside.EnvelopeParts.{sized_length}
 use Rattle.codec.proofs.WriterLaws.{room_then, room_off}
 use Rattle.codec.proofs.raw.past_sized.Goals as goal

@@ -1,7 +1,6 @@
 use mathlib.Core.Path.{refl}
 use native.Mathlib.Omega.{arith}
 use lib.ListN.{length}
-use borrow.Author.Rules.{rules}
 use Rattle.codec.specs.Leb128.{shortest}
 use Rattle.codec.specs.Writing.{sized}
 use Rattle.codec.proofs.WriterLaws.{first_room, rest_room, stored_then}

@@ -1,5 +1,5 @@
 use borrow.Author.Rules.{rules}
-use Rattle.codec.proofs.WriterLaws.{Going, start, inside, turn, last}
+use Rattle.codec.proofs.WriterLaws.{start, inside, turn, last}
 use Rattle.codec.proofs.raw.store_varint.Goals as goal
 
 pub loop-rest-init : goal.loop-rest-init

@@ -1,5 +1,4 @@
-use borrow.Author.Rules.{rules}
-use Rattle.codec.proofs.WriterLaws.{Going, start, inside, turn, last}
+use Rattle.codec.proofs.WriterLaws.{Going}
 use Rattle.codec.proofs.raw.store_varint.Given as goal
 
 abbrev pub invariant-loop-rest : goal.invariant-loop-rest

@@ -1,6 +1,5 @@
 use native.Mathlib.Omega.{arith}
 use Rattle.message.proofs.CountedReads.{bytes_refused, bytes_read, bytes_inside}
-use borrow.Author.Rules.{rules}
 use Rattle.message.proofs.reader.bytes_within.Goals as goal
 
 pub overflow_add-result : goal.overflow_add-result

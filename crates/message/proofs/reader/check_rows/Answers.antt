@@ -1,6 +1,4 @@
-use borrow.Author.Rules.{rules}
-use Prim.Native.Nat.{◌-◌}
-use Rattle.message.proofs.RowLoops.{Checking, checking_none, checked_all, checking_stops, checking_more}
+use Rattle.message.proofs.RowLoops.{checking_none, checked_all, checking_stops, checking_more}
 use Rattle.message.proofs.reader.check_rows.Goals as goal
 
 pub loop-i-init : goal.loop-i-init

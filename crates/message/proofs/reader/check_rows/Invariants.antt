@@ -1,6 +1,5 @@
-use borrow.Author.Rules.{rules}
 use Prim.Native.Nat.{◌-◌}
-use Rattle.message.proofs.RowLoops.{Checking, checking_none, checked_all, checking_stops, checking_more}
+use Rattle.message.proofs.RowLoops.{Checking}
 use Rattle.message.proofs.reader.check_rows.Given as goal
 
 abbrev pub invariant-loop-i : goal.invariant-loop-i

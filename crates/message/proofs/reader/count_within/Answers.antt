@@ -1,5 +1,4 @@
 use Rattle.message.proofs.CountedReads.{count_refused, count_over, count_kept}
-use borrow.Author.Rules.{rules}
 use Rattle.message.proofs.reader.count_within.Goals as goal
 
 pub returns-in_default : goal.returns-in_default

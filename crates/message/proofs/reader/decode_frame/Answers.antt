@@ -1,7 +1,6 @@
 use mathlib.Core.Path.{refl}
 use native.Mathlib.Omega.{arith}
 use Rattle.message.proofs.Decoding.{envelope_read, body_inside, frame_short, no_envelope, body_part, frame_unread, frame_read}
-use borrow.Author.Rules.{rules}
 use Rattle.message.proofs.reader.decode_frame.Goals as goal
 
 pub returns-then-clock-lt520 : goal.returns-then-clock-lt520

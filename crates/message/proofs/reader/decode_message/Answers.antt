@@ -1,6 +1,5 @@
 use mathlib.Core.Path.{refl}
 use Rattle.message.proofs.Decoding.{told, told_refused, hello_told, ack_told, delta_told_lem, ping_told, pong_told, short_clock, unread, short_rows, read_hello, read_ack, read_delta, read_ping, read_pong, is_delta}
-use borrow.Author.Rules.{rules}
 use Rattle.message.proofs.reader.decode_message.Goals as goal
 
 pub returns-then-clock-lt520 : goal.returns-then-clock-lt520

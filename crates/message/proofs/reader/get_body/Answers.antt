@@ -4,7 +4,6 @@ use mathlib.Core.Path.{◌∙◌}
 use Rattle.codec.proofs.ReadSteps.{value_read}
 use Rattle.row.proofs.ReadSteps.{number_refused}
 use Rattle.message.proofs.Bodies.{body_tag, body_hello, body_delta, body_ack, body_nonce, body_ping, body_pong}
-use borrow.Author.Rules.{rules}
 use Rattle.message.proofs.reader.get_body.Goals as goal
 
 pub returns-then-tag-gt4 : goal.returns-then-tag-gt4

@@ -1,13 +1,11 @@
 use borrow.Author.Rules.{rules}
-use Prim.Native.Nat.{◌-◌}
-use mathlib.Core.Path.{◌≡◌, refl, sym, ◌∙◌, ap}
+use mathlib.Core.Path.{refl, sym, ◌∙◌, ap}
 use native.Mathlib.Omega.{arith}
-use lib.ListN.{length}
 use Rattle.clock.specs.Inside.Columns.{in_columns, room_of}
 use Rattle.codec.proofs.ReadSteps.{value_read}
 use Rattle.row.proofs.ReadSteps.{number_refused}
 use Rattle.message.proofs.CountedReads.{count_got}
-use Rattle.message.proofs.ClockPairs.{Entering, entering_none, entered_all, entering_stops, entering_more, entering_room, no_count, counted, pair_read, pair_refused}
+use Rattle.message.proofs.ClockPairs.{entering_none, entered_all, entering_stops, entering_more, entering_room, no_count, counted, pair_read, pair_refused}
 use Rattle.message.proofs.reader.get_clock.Goals as goal
 
 pub returns-in_default : goal.returns-in_default
@@ -33,13 +31,12 @@ returns-in_default-room c =
     (ap (room_of (in_columns c.loop-i.authors c.loop-i.numbers c.loop-i.count) c.enter_in-room.new.authors c.enter_in-room.new.numbers) (sym c.in_default-room.is) ∙ c.enter_in-room.ensures))
 
 pub loop-i-preserved : goal.loop-i-preserved
-loop-i-preserved c =
-    (
-      search rules,
-      search rules,
-      entering_more c.loop-i.invariant.2 c.loop-i-test.true _ _ _ (pair_read c.get_pair-pair.ensures c.in-Pair.is) _ _ _
-          (ap (room_of (in_columns c.loop-i.authors c.loop-i.numbers c.loop-i.count) c.enter_in-room.new.authors c.enter_in-room.new.numbers) (sym c.in-Count.is) ∙ c.enter_in-room.ensures),
-    )
+loop-i-preserved c = (
+  search rules,
+  search rules,
+  entering_more c.loop-i.invariant.2 c.loop-i-test.true _ _ _ (pair_read c.get_pair-pair.ensures c.in-Pair.is) _ _ _
+      (ap (room_of (in_columns c.loop-i.authors c.loop-i.numbers c.loop-i.count) c.enter_in-room.new.authors c.enter_in-room.new.numbers) (sym c.in-Count.is) ∙ c.enter_in-room.ensures),
+)
 
 pub returns : goal.returns
 returns c =

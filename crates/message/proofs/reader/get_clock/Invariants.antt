@@ -1,13 +1,8 @@
-use borrow.Author.Rules.{rules}
 use Prim.Native.Nat.{◌-◌}
-use mathlib.Core.Path.{◌≡◌, refl, sym, ◌∙◌, ap}
-use native.Mathlib.Omega.{arith}
+use mathlib.Core.Path.{◌≡◌}
 use lib.ListN.{length}
-use Rattle.clock.specs.Inside.Columns.{in_columns, room_of}
-use Rattle.codec.proofs.ReadSteps.{value_read}
-use Rattle.row.proofs.ReadSteps.{number_refused}
-use Rattle.message.proofs.CountedReads.{count_got}
-use Rattle.message.proofs.ClockPairs.{Entering, entering_none, entered_all, entering_stops, entering_more, entering_room, no_count, counted, pair_read, pair_refused}
+use Rattle.clock.specs.Inside.Columns.{in_columns}
+use Rattle.message.proofs.ClockPairs.{Entering}
 use Rattle.message.proofs.reader.get_clock.Given as goal
 
 abbrev pub invariant-loop-i : goal.invariant-loop-i

@@ -1,5 +1,4 @@
 use Rattle.message.proofs.Bodies.{with_kind}
-use borrow.Author.Rules.{rules}
 use Rattle.message.proofs.reader.get_clock_body.Goals as goal
 
 pub returns : goal.returns

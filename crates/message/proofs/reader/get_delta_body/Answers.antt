@@ -2,7 +2,6 @@ use mathlib.Core.Path.{◌∙◌}
 use Rattle.codec.proofs.ReadSteps.{value_read}
 use Rattle.row.proofs.ReadSteps.{number_refused}
 use Rattle.message.proofs.Bodies.{delta_no_count, delta_no_rows, delta_rows_lem}
-use borrow.Author.Rules.{rules}
 use Rattle.message.proofs.reader.get_delta_body.Goals as goal
 
 pub returns-in_default : goal.returns-in_default

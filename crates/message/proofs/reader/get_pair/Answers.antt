@@ -2,7 +2,6 @@ use mathlib.Core.Path.{refl}
 use Rattle.codec.proofs.ReadSteps.{on, off, value_read}
 use Rattle.row.proofs.ReadSteps.{number_refused}
 use Rattle.message.specs.Reading.{get_pair}
-use borrow.Author.Rules.{rules}
 use Rattle.message.proofs.reader.get_pair.Goals as goal
 
 pub returns-in_default : goal.returns-in_default

@@ -5,7 +5,6 @@ use Rattle.row.proofs.ReadWhole.{part_refused}
 use Rattle.error.specs.Answer.{bad}
 use Rattle.message.specs.Reading.{get_signed}
 use Rattle.message.proofs.SignedRows.{head_read, head_refused, clock_read, clock_refused, few_deps, no_row_lem, no_fits, row_is, op_fits}
-use borrow.Author.Rules.{rules}
 use Rattle.message.proofs.reader.get_signed_op.Goals as goal
 
 pub returns-in_default : goal.returns-in_default

@@ -1,6 +1,5 @@
 use mathlib.Core.Path.{sym, ap}
 use Rattle.message.specs.Inside.ReaderParts.{head_fault}
-use borrow.Author.Rules.{rules}
 use Rattle.message.proofs.reader.head_fault.Goals as goal
 
 pub returns-in-Refused : goal.returns-in-Refused

@@ -1,6 +1,5 @@
 use mathlib.Core.Path.{sym, ap}
 use Rattle.message.specs.Inside.ReaderParts.{pair_fault}
-use borrow.Author.Rules.{rules}
 use Rattle.message.proofs.reader.pair_fault.Goals as goal
 
 pub returns-in-Refused : goal.returns-in-Refused

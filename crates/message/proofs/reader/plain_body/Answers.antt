@@ -1,7 +1,6 @@
 use mathlib.Core.Path.{ap}
 use Rattle.error.specs.Answer.{got}
 use Rattle.clock.specs.declared.vector.VectorClock.{VectorClock}
-use borrow.Author.Rules.{rules}
 use Rattle.message.proofs.reader.plain_body.Goals as goal
 
 pub returns : goal.returns

@@ -2,7 +2,6 @@ use mathlib.Core.Path.{◌∙◌}
 use Rattle.codec.proofs.ReadSteps.{value_read, finish_done, finish_refused}
 use Rattle.row.proofs.ReadSteps.{number_refused}
 use Rattle.message.proofs.Bodies.{closed_refused, no_tag, closed_body, closed_end, closed_over}
-use borrow.Author.Rules.{rules}
 use Rattle.message.proofs.reader.read_body.Goals as goal
 
 pub returns-in_default : goal.returns-in_default

@@ -1,6 +1,5 @@
 use mathlib.Core.Path.{refl}
 use Rattle.message.proofs.RowLoops.{row_put}
-use borrow.Author.Rules.{rules}
 use Rattle.message.proofs.reader.write_row.Goals as goal
 
 pub returns : goal.returns

@@ -1,6 +1,4 @@
-use borrow.Author.Rules.{rules}
-use Prim.Native.Nat.{◌-◌}
-use Rattle.message.proofs.RowLoops.{Writing, writing_none, writing_size, written_all, writing_goes_on, slot_room, writing_more}
+use Rattle.message.proofs.RowLoops.{writing_none, written_all, writing_goes_on, slot_room, writing_more}
 use Rattle.message.proofs.reader.write_rows.Goals as goal
 
 pub loop-i-init : goal.loop-i-init

@@ -1,6 +1,5 @@
-use borrow.Author.Rules.{rules}
 use Prim.Native.Nat.{◌-◌}
-use Rattle.message.proofs.RowLoops.{Writing, writing_none, writing_size, written_all, writing_goes_on, slot_room, writing_more}
+use Rattle.message.proofs.RowLoops.{Writing}
 use Rattle.message.proofs.reader.write_rows.Given as goal
 
 abbrev pub invariant-loop-i : goal.invariant-loop-i

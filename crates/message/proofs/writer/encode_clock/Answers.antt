@@ -1,5 +1,4 @@
 use Rattle.message.proofs.TaggedWrites.{clock_short, clock_sound, clock_unsound, clock_put}
-use borrow.Author.Rules.{rules}
 use Rattle.std.proofs.Common.{ap, not}
 use Rattle.message.proofs.writer.encode_clock.Goals as goal
 

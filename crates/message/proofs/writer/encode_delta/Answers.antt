@@ -1,5 +1,4 @@
 use Rattle.message.proofs.DeltaWrites.{delta_short, delta_unsound, delta_parts, delta_many, delta_written}
-use borrow.Author.Rules.{rules}
 use Rattle.std.proofs.Common.{ap, not}
 use Rattle.message.proofs.writer.encode_delta.Goals as goal
 

@@ -1,5 +1,4 @@
 use Rattle.message.proofs.TaggedWrites.{pong_written}
-use borrow.Author.Rules.{rules}
 use Rattle.message.proofs.writer.encode_pong.Goals as goal
 
 pub returns : goal.returns

@@ -1,8 +1,4 @@
-use Prim.Native.Nat.{ℕ}
-use mathlib.Core.Path.{sym, ◌∙◌}
-use lib.ListN.{length-map}
 use Rattle.message.proofs.TaggedWrites.{in_columns_lem, clock_counted}
-use borrow.Author.Rules.{rules}
 use Rattle.std.proofs.Common.{length, ◌≡◌, arith}
 use Rattle.message.proofs.writer.entries_len.Goals as goal
 

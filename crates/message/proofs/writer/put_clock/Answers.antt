@@ -1,7 +1,6 @@
 use Rattle.clock.specs.Vector.{entries}
 use Rattle.row.specs.Wire.{deps_bytes}
 use Rattle.message.proofs.TaggedWrites.{tag_found, behind_found, tagged_put, tagged_short}
-use borrow.Author.Rules.{rules}
 use Rattle.message.proofs.writer.put_clock.Goals as goal
 
 pub store_tag-at-requires : goal.store_tag-at-requires

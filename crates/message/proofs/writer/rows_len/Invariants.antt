@@ -1,7 +1,5 @@
-use borrow.Author.Rules.{rules}
 use Prim.Native.Nat.{◌-◌}
-use Rattle.replicated_log.proofs.Calls.Restoration.{part_ok}
-use Rattle.message.proofs.DeltaWrites.{Counted, counted_none, counted_more, counted_all}
+use Rattle.message.proofs.DeltaWrites.{Counted}
 use Rattle.message.proofs.writer.rows_len.Given as goal
 
 abbrev pub invariant-loop-i : goal.invariant-loop-i

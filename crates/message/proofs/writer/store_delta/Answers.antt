@@ -1,5 +1,4 @@
 use Rattle.message.proofs.DeltaWrites.{delta_room, count_room, rows_room, delta_stored}
-use borrow.Author.Rules.{rules}
 use Rattle.message.proofs.writer.store_delta.Goals as goal
 
 pub store_tag-count_at-requires : goal.store_tag-count_at-requires

@@ -1,9 +1,5 @@
-use Prim.Native.Nat.{ℕ}
-use mathlib.Core.Path.{sym, ◌∙◌}
-use lib.ListN.{length-map}
 use Rattle.clock.specs.Vector.{entries}
 use Rattle.message.proofs.TaggedWrites.{in_columns_lem}
-use borrow.Author.Rules.{rules}
 use Rattle.std.proofs.Common.{length, ◌≡◌, arith}
 use Rattle.message.proofs.writer.store_entries.Goals as goal
 

@@ -1,7 +1,5 @@
-use borrow.Author.Rules.{rules}
 use Prim.Native.Nat.{◌-◌}
-use Rattle.replicated_log.proofs.Calls.Restoration.{part_ok}
-use Rattle.message.proofs.DeltaWrites.{Going, start, row_room, again, all_stored}
+use Rattle.message.proofs.DeltaWrites.{Going}
 use Rattle.message.proofs.writer.store_rows.Given as goal
 
 abbrev pub invariant-loop-i : goal.invariant-loop-i

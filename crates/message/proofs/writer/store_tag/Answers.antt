@@ -1,5 +1,4 @@
 use Rattle.message.proofs.TaggedWrites.{tag_stored}
-use borrow.Author.Rules.{rules}
 use Rattle.message.proofs.writer.store_tag.Goals as goal
 
 pub returns : goal.returns

@@ -1,8 +1,5 @@
-use borrow.Author.Rules.{rules}
 use Prim.Native.Nat.{◌+◌, ◌-◌, ◌≤◌}
-use mathlib.Core.Logic.{⊎_elim}
 use Rattle.words.specs.Choice.{Tells}
-use Rattle.words.proofs.Words.{block_none, block_zero, block_other, block_all}
 use Rattle.words.specs.Inside.Moves.{ZeroIn}
 use Rattle.words.proofs.raw.block_is_zero.Given as goal
 

@@ -1,12 +1,7 @@
 use Rattle.std.proofs.Common.{ap, not}
 use borrow.Author.Rules.{rules}
-use Prim.Native.Nat.{◌-◌, ◌≤◌}
-use native.Mathlib.Omega.{arith}
-use lib.ListN.{length}
 use Rattle.words.specs.Choice.Tells.{is_false}
 use Rattle.words.proofs.Words.{in_none, in_more, zero_not_in, last_tells}
-use Rattle.words.proofs.raw.block_is_zero.Reads as block_is_zero_reads
-use Rattle.words.specs.Inside.Moves.{ZeroIn}
 use Rattle.words.proofs.raw.blocks_are_zero.Goals as goal
 
 pub loop-i-init : goal.loop-i-init

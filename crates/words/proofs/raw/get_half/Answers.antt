@@ -1,6 +1,4 @@
-use borrow.Author.Rules.{rules}
 use native.Mathlib.Omega.{arith}
-use Rattle.words.proofs.raw.wide.Reads as wide_reads
 use Rattle.words.specs.Inside.Moves.{get32}
 use Rattle.words.proofs.raw.get_half.Goals as goal
 

@@ -1,6 +1,4 @@
-use borrow.Author.Rules.{rules}
 use Rattle.words.proofs.Words.{halves}
-use Rattle.words.proofs.raw.get_half.Reads as get_half_reads
 use Rattle.words.proofs.raw.get_word.Goals as goal
 
 pub returns : goal.returns

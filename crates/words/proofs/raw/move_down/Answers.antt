@@ -1,10 +1,6 @@
 use borrow.Author.Rules.{rules}
-use Prim.Native.Nat.{ℕ, ◌≤◌, ◌<◌, ◌-◌}
-use mathlib.Core.Path.{◌≡◌}
 use native.Mathlib.Omega.{arith}
-use lib.ListN.{length}
 use Rattle.words.proofs.Moves.{down_none, down_turn, down_all}
-use Rattle.words.specs.Inside.Moves.{moved_down}
 use Rattle.words.proofs.raw.move_down.Goals as goal
 
 pub loop-i-init : goal.loop-i-init

@@ -1,13 +1,7 @@
 use borrow.Author.Rules.{rules}
-use Prim.Native.Nat.{ℕ, ◌≤◌, ◌<◌, ◌-◌}
-use mathlib.Core.Path.{◌≡◌}
 use mathlib.Core.List.{[]}
 use native.Mathlib.Omega.{arith}
-use lib.ListN.{length, take}
-use Rattle.words.specs.Be.{bes}
-use Rattle.words.specs.Areas.{put_at}
 use Rattle.words.proofs.Puts.{words_none, words_turn, words_done}
-use Rattle.words.proofs.raw.put_word.Reads as put_word_reads
 use Rattle.words.proofs.raw.put_words.Goals as goal
 
 pub loop-i-init : goal.loop-i-init

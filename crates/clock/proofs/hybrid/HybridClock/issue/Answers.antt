@@ -1,4 +1,3 @@
-use borrow.Author.Rules.{rules}
 use Rattle.clock.proofs.hybrid.HybridClock.issue.Goals as goal
 
 pub returns : goal.returns

@@ -3,8 +3,7 @@ use mathlib.Core.Logic.{⊎_elim}
 use native.Mathlib.Omega.{arith}
 use Prim.Native.Nat.{ℕ, ◌+◌}
 use Rattle.clock.proofs.HybridLaws.{max_below, counter_both, counter_own, counter_remote, counter_none}
-use borrow.Author.Rules.{rules}
-use borrow.Author.Tests.{eqb-true, eqb-false}
+use borrow.Author.Tests.{eqb-true}
 use Rattle.clock.proofs.hybrid.HybridClock.next_counter.Goals as goal
 
 pub overflow_add-result : goal.overflow_add-result

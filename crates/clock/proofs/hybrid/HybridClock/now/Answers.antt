@@ -1,7 +1,6 @@
 use mathlib.Core.Path.{sym, ◌∙◌}
 use native.Mathlib.Omega.{arith}
 use Rattle.clock.proofs.HybridLaws.{now_moved, now_full}
-use borrow.Author.Rules.{rules}
 use Rattle.clock.proofs.hybrid.HybridClock.now.Goals as goal
 
 pub returns-then-counter-gt4294967295 : goal.returns-then-counter-gt4294967295

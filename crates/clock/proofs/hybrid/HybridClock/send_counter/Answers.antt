@@ -1,7 +1,6 @@
 use mathlib.Core.Path.{sym}
 use native.Mathlib.Omega.{arith}
 use Rattle.clock.proofs.HybridLaws.{wall_stayed, wall_moved}
-use borrow.Author.Rules.{rules}
 use Rattle.clock.specs.Hybrid.{hlc_of}
 use Rattle.clock.proofs.hybrid.HybridClock.send_counter.Goals as goal
 

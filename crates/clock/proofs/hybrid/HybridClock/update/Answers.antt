@@ -1,7 +1,6 @@
 use mathlib.Core.Path.{sym}
 use native.Mathlib.Omega.{arith}
 use Rattle.clock.proofs.HybridLaws.{update_ahead, update_moved, update_full}
-use borrow.Author.Rules.{rules}
 use Rattle.clock.proofs.hybrid.HybridClock.update.Goals as goal
 
 pub returns-then-remote_wall-saturating_add : goal.returns-then-remote_wall-saturating_add

@@ -1,6 +1,5 @@
 use mathlib.Core.Path.{sym, ◌∙◌}
 use Rattle.clock.proofs.LexicographicOrder.{order_less, order_greater, order_equal}
-use borrow.Author.Rules.{rules}
 use Rattle.clock.proofs.stamp.Timestamp.cmp.Goals as goal
 
 pub returns-then-less : goal.returns-then-less

@@ -2,7 +2,6 @@ use mathlib.Core.Path.{sym, ◌∙◌, ap}
 use borrow.Author.Tests.{not-true, not-false}
 use Rattle.error.specs.Answer.{done}
 use Rattle.clock.specs.Vector.{get_call}
-use borrow.Author.Rules.{rules}
 use Rattle.clock.proofs.vector.VectorClock.get.Goals as goal
 
 pub returns-then-not-is_sound : goal.returns-then-not-is_sound

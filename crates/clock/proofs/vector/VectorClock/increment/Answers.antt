@@ -6,7 +6,6 @@ use Rattle.clock.specs.Entries.{put}
 use Rattle.clock.specs.Vector.{increment_call, entries, changed_of, outcome_of}
 use Rattle.clock.proofs.ClockCalls.{grown_number, grown_stop}
 use Rattle.clock.proofs.Increment.{increment_spent, increment_told}
-use borrow.Author.Rules.{rules}
 use Rattle.clock.proofs.vector.VectorClock.increment.Goals as goal
 
 pub returns-then-not-is_sound : goal.returns-then-not-is_sound

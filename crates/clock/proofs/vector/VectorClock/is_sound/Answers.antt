@@ -1,10 +1,7 @@
 use borrow.Author.Tests.{not-true, not-false}
-use Prim.Native.Nat.{ℕ}
 use native.Mathlib.Omega.{arith}
-use mathlib.Core.Path.{◌≡◌, sym, ◌∙◌}
-use lib.ListN.{length, length-map}
+use mathlib.Core.Path.{sym, ◌∙◌}
 use Rattle.clock.proofs.ClockRules.{sound_many, sound_falling, sound_used, sound_last}
-use borrow.Author.Rules.{rules}
 use Rattle.clock.proofs.vector.VectorClock.is_sound.Goals as goal
 
 pub returns-then-n-gt32 : goal.returns-then-n-gt32

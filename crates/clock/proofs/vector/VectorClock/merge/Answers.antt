@@ -1,7 +1,6 @@
 use mathlib.Core.Path.{sym, ◌∙◌}
 use borrow.Author.Tests.{not-true, not-false}
 use Rattle.clock.proofs.CausalOrders.{merge_refused, merge_told}
-use borrow.Author.Rules.{rules}
 use Rattle.clock.proofs.vector.VectorClock.merge.Goals as goal
 
 pub returns-then-not-is_sound : goal.returns-then-not-is_sound
