@@ -1,11 +1,9 @@
 -- One law for each outcome of the exported vector clock calls.
 use Prim.Native.Nat.{ℕ, ◌≤◌, ◌<◌}
-use mathlib.Core.Path.{◌≡◌, refl, sym, ◌∙◌, ap}
+use mathlib.Core.Path.{◌≡◌, refl}
 use mathlib.Core.Bool.{Bool, true, false, ◌&&◌}
 use mathlib.Core.List.{List, []}
-use native.Mathlib.Omega.{arith}
 use lib.ListN.{length}
-use lib.Dec.{leb}
 use borrow.Author.Tests.{le-leb, lt-leb}
 use Rattle.words.specs.Areas.{put_at}
 use Rattle.error.specs.declared.Refusal.{Refusal}
@@ -19,7 +17,7 @@ use Rattle.clock.specs.declared.vector.Incremented.{Incremented}
 use Rattle.clock.specs.declared.vector.Outcome.TheVariants as outcome
 use Rattle.clock.specs.declared.vector.NumberAnswer.TheVariants as number
 use Rattle.clock.specs.Vector.{clock_of, changed_of, incremented_of}
-use Rattle.clock.specs.Area.{clock_at, clock_bytes}
+use Rattle.clock.specs.Area.{clock_bytes}
 use Rattle.cuwelfra.specs.declared.vector.ClockTold.{ClockTold}
 use Rattle.cuwelfra.specs.Vectors.{on_area, long, count_told}
 use Rattle.cuwelfra.specs.Exports.{exported, written_back}

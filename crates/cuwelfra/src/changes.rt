@@ -30,7 +30,9 @@ pub extern "C" fn cuwelfra_from_parts(
 ) -> Told
     ensures { (result, areas log.new held.new head.new) ≡ exported told_by (from_parts_call (areas log.old held.old head.old) parts.now count compacted.now) }
 {
-    crate::store::outcome_told(replicated_log::change::from_parts(log, held, head, parts, count, compacted))
+    crate::store::outcome_told(replicated_log::change::from_parts(
+        log, held, head, parts, count, compacted,
+    ))
 }
 
 // Removes every row at or below the cutoff, and answers how many.

@@ -38,7 +38,7 @@ use Rattle.merge.proofs.RisingReferences.{length_work}
 use Rattle.merge.proofs.Preparation.{room_scratch, room_output}
 use Rattle.merge.proofs.Judgement.{rows_time}
 use Rattle.merge.proofs.WrittenAreas.{with_held, commit_is, batch_written}
-use Rattle.replicated_log.specs.Insertion.{insert_all, fits}
+use Rattle.replicated_log.specs.Insertion.{insert_all}
 
 -- ---- 14 to 18
 

@@ -42,7 +42,6 @@ use Rattle.working.proofs.ReferenceRows.{row_time}
 use Rattle.working.proofs.ScratchColumns.{length_cells}
 use Rattle.quota.specs.Inside.Room.{rows_logged}
 use Rattle.merge.specs.Inside.Decision.{Opened, SettleNeeds, SettledRows, JudgeNeeds, Judged, Accepts, Merges}
-use Rattle.merge.specs.declared.deciding.Settled.TheVariants as settled
 use Rattle.merge.specs.declared.deciding.Decision.TheVariants as decision
 use Rattle.merge.proofs.UsedSlots.{used_slot, used_refs, used_rows, used_slots}
 use Rattle.merge.proofs.RisingReferences.{slots_rise, length_work, length_slots}

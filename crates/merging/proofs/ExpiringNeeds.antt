@@ -22,7 +22,7 @@ use Rattle.merging.specs.Group.{empty_store, own}
 use Rattle.merging.proofs.Traces.{done_same}
 use Rattle.merging.proofs.CallTraces.{answer_on, trace, Traces, traced, AllStandOn, all_stand, is_accepted, accepted_on}
 use Rattle.merging.proofs.ConditionTests.{can_make, given_tested, one_content, one_tested, spanning, spans_tested, has, within_tested, carries_tested}
-use Rattle.merging.proofs.DemandInstance.{blank, bytes11, bytes12, bytes21, bytes22, bytes32, bringing, bring, calls₂, tracing, blank_reads, room, empty, given₂, stand₂, spans₂}
+use Rattle.merging.proofs.DemandInstance.{blank, bytes11, bytes12, bytes21, bytes22, bytes32, bringing, bring, calls₂, tracing, blank_reads, room, empty, given₂, spans₂}
 use Rattle.merging.proofs.Expiring.{catching_up, runs_last}
 use Rattle.merging.proofs.RowLists.{row_bytes}
 use Rattle.merging.proofs.StoreRuns.{one_part}

@@ -1,6 +1,5 @@
 use mathlib.Core.Path.{◌∙◌}
 use Rattle.peer.specs.Inside.NoncePlaces.{having_pings}
-use borrow.Author.Rules.{rules}
 use Rattle.peer.proofs.moved.Goals as goal
 
 pub returns : goal.returns

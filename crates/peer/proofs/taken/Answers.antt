@@ -1,8 +1,4 @@
-use Prim.Native.Nat.{ℕ}
-use mathlib.Core.Path.{◌≡◌, sym, ◌∙◌}
-use lib.ListN.{length, length-map}
 use Rattle.peer.proofs.PongPlaces.{there, absent, took_sent, took_again, took_none}
-use borrow.Author.Rules.{rules}
 use Rattle.std.proofs.Common.{arith}
 use Rattle.peer.proofs.taken.Goals as goal
 

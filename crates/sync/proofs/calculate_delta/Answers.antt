@@ -4,7 +4,6 @@ use Rattle.clock.specs.Vector.{number_answer}
 use Rattle.replicated_log.specs.Areas.{areas}
 use Rattle.sync.specs.Delta.{delta_call}
 use Rattle.sync.proofs.CallTests.{counted, ready, list_refused, list_short, delta_done}
-use borrow.Author.Rules.{rules}
 use Rattle.sync.proofs.calculate_delta.Goals as goal
 
 pub returns-then-output-n : goal.returns-then-output-n

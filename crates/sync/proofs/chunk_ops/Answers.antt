@@ -4,7 +4,6 @@ use Rattle.clock.specs.Vector.{number_answer}
 use Rattle.replicated_log.specs.Areas.{areas}
 use Rattle.sync.specs.Delta.{chunk_call}
 use Rattle.sync.proofs.CallTests.{counted, ready, list_refused, list_short, chunks_done}
-use borrow.Author.Rules.{rules}
 use Rattle.sync.proofs.chunk_ops.Goals as goal
 
 pub returns-then-output-n : goal.returns-then-output-n

@@ -4,7 +4,6 @@ use Rattle.clock.specs.Vector.{number_answer}
 use Rattle.replicated_log.specs.Areas.{areas}
 use Rattle.sync.proofs.CallTests.{counted, ready}
 use Rattle.sync.proofs.SizeCalls.{sizes_capacity, sizes_refused, room_found, sizes_short, sizes_done}
-use borrow.Author.Rules.{rules}
 use Rattle.std.proofs.Common.{not}
 use Rattle.sync.proofs.delta_sizes.Goals as goal
 

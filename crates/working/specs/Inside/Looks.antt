@@ -1,5 +1,5 @@
 -- What a look at the row of a reference finds. Inside: need not be believed.
-use Rattle.std.specs.Prelude.{ℕ, suc, ◌+◌, ◌≡◌, Bool, ◌&&◌, List, [], ◌∷◌, ◌++◌, eqb}
+use Rattle.std.specs.Prelude.{ℕ, suc, ◌≡◌, Bool, ◌&&◌, List, [], ◌∷◌, ◌++◌, eqb}
 use Rattle.words.specs.Names.{Author, Seq, Bytes, Area, Position, Clock}
 use Rattle.clock.specs.Order.{less, stamp_key}
 use Rattle.row.specs.Rows.{Row, work_key}

@@ -1,5 +1,5 @@
 -- What the functions on the scratch area promise, by the definitions of merging. Inside: need not be believed.
-use Rattle.std.specs.Prelude.{ℕ, ◌+◌, ◌-◌, ◌*◌, ◌≤◌, ◌≡◌, true, List, [], length}
+use Rattle.std.specs.Prelude.{ℕ, ◌+◌, ◌*◌, ◌≤◌, ◌≡◌, true, List, [], length}
 use Rattle.words.specs.Sizes.{word_size}
 use Rattle.words.specs.Names.{Time, Bytes, Area, Position, Clock}
 use Rattle.error.specs.Answer.{Answer, done, refused}

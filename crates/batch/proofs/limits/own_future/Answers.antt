@@ -1,12 +1,6 @@
-use borrow.Author.Rules.{rules}
-use Prim.Native.Nat.{ℕ, ◌+◌, ◌-◌, ◌≤◌, ◌<◌}
-use mathlib.Core.Path.{◌≡◌, refl, sym, ◌∙◌}
-use mathlib.Core.List.{◌∷◌}
-use mathlib.Core.Logic.{⊎_elim}
+use mathlib.Core.Path.{refl}
 use native.Mathlib.Omega.{arith}
-use lib.ListN.{length, drop, get_or, length-map}
-use Rattle.row.specs.Values.{deps_of}
-use Rattle.batch.proofs.Validation.{LeftOwn, own_other, own_below, own_found, own_none, value_length, value_next}
+use Rattle.batch.proofs.Validation.{own_other, own_below, own_found, own_none, value_length, value_next}
 use Rattle.batch.proofs.limits.own_future.Goals as goal
 use Rattle.batch.proofs.limits.own_future.Goals.{then-d-i+else-seq-d, else-d-i}
 
@@ -25,11 +19,13 @@ returns-then-seq-d c =
 
 pub loop-i-preserved : goal.loop-i-preserved
 loop-i-preserved c =
-    let next = value_next c.args.d (omega arith) (omega arith) c.requires c.loop-i.i c.loop-i-test.true in
-    (omega arith, elim c.if-d-i.branch [
-        then-d-i+else-seq-d w ↦ own_below _ _ _ c.loop-i.i _ _ next w.if-d-i.true w.if-seq-d.false c.loop-i.invariant.1
-      | else-d-i w ↦ own_other _ _ _ c.loop-i.i _ _ next w.if-d-i.false c.loop-i.invariant.1
-    ])
+    let next = value_next c.args.d (omega arith) (omega arith) c.requires c.loop-i.i c.loop-i-test.true in (
+      omega arith,
+      elim c.if-d-i.branch [
+        | then-d-i+else-seq-d w ↦ own_below _ _ _ c.loop-i.i _ _ next w.if-d-i.true w.if-seq-d.false c.loop-i.invariant.1
+        | else-d-i w ↦ own_other _ _ _ c.loop-i.i _ _ next w.if-d-i.false c.loop-i.invariant.1
+      ],
+    )
 
 pub returns : goal.returns
 returns c = own_none _ _ _ c.loop-i.i _ (value_length _ (omega arith) (omega arith) c.requires) (omega arith) c.loop-i.invariant.1

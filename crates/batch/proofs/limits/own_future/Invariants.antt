@@ -1,12 +1,6 @@
-use borrow.Author.Rules.{rules}
-use Prim.Native.Nat.{ℕ, ◌+◌, ◌-◌, ◌≤◌, ◌<◌}
-use mathlib.Core.Path.{◌≡◌, refl, sym, ◌∙◌}
-use mathlib.Core.List.{◌∷◌}
-use mathlib.Core.Logic.{⊎_elim}
-use native.Mathlib.Omega.{arith}
-use lib.ListN.{length, drop, get_or, length-map}
+use Prim.Native.Nat.{◌-◌, ◌≤◌}
 use Rattle.row.specs.Values.{deps_of}
-use Rattle.batch.proofs.Validation.{LeftOwn, own_other, own_below, own_found, own_none, value_length, value_next}
+use Rattle.batch.proofs.Validation.{LeftOwn}
 use Rattle.batch.proofs.limits.own_future.Given as goal
 
 abbrev pub invariant-loop-i : goal.invariant-loop-i

@@ -1,9 +1,4 @@
 use Rattle.std.proofs.Common.{arith}
-use borrow.Author.Rules.{rules}
-use Prim.Native.Nat.{ℕ}
-use mathlib.Core.Path.{◌≡◌, sym, ◌∙◌}
-use lib.ListN.{length, length-map}
-use Rattle.row.specs.Values.{deps_of}
 use Rattle.batch.specs.Settings.{limits_of}
 use Rattle.batch.proofs.Validation.{value_length, zero_sequence, foreign_stamp, spent_counter, payload_too_large, too_many_causes, own_future_lem, ahead_of_time, bad_signature, valid_row}
 use Rattle.batch.proofs.limits.validate.Goals as goal

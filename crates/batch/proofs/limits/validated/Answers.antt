@@ -1,4 +1,3 @@
-use borrow.Author.Rules.{rules}
 use mathlib.Core.Path.{ap}
 use Rattle.clock.specs.Vector.{outcome_of}
 use Rattle.batch.proofs.Validation.{goes_refused, goes_done}

@@ -1,7 +1,6 @@
 use Rattle.row.proofs.ReadSteps.{num, no_num}
 use Rattle.batch.proofs.BatchLoop.{no_count, over_count, batch_by_rows, ended_as}
 use Rattle.batch.proofs.RowStarts.{none_start, starts_by_rows}
-use borrow.Author.Rules.{rules}
 use Rattle.batch.proofs.raw.read_batch.Goals as goal
 
 pub returns-in_default : goal.returns-in_default

@@ -1,12 +1,8 @@
 use borrow.Author.Rules.{rules}
-use Prim.Native.Nat.{◌-◌}
-use mathlib.Core.Path.{◌≡◌, refl}
+use mathlib.Core.Path.{refl}
 use native.Mathlib.Omega.{arith}
-use lib.ListN.{length}
-use Rattle.clock.specs.Vector.{outcome_of}
-use Rattle.batch.specs.Settings.{limits_of}
-use Rattle.batch.proofs.BatchLoop.{Counting, counting_start, left_over, all_read, row_stops, counting_turn, rows_refused, ended_as}
-use Rattle.batch.proofs.RowStarts.{Starting, starting_start, starting_turn, all_noted, none_start}
+use Rattle.batch.proofs.BatchLoop.{counting_start, left_over, all_read, row_stops, counting_turn, rows_refused, ended_as}
+use Rattle.batch.proofs.RowStarts.{starting_start, starting_turn, all_noted, none_start}
 use Rattle.batch.proofs.raw.read_rows.Goals as goal
 
 pub loop-i-init : goal.loop-i-init

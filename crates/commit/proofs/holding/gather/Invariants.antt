@@ -1,7 +1,4 @@
-use borrow.Author.Rules.{rules}
-use Rattle.commit.proofs.HeldSlots.{Gathering, gather_start, gather_from, gather_held, gather_batch, gather_end}
-use native.Mathlib.Omega.{arith}
-use mathlib.Core.Logic.{⊎_elim}
+use Rattle.commit.proofs.HeldSlots.{Gathering}
 use Prim.Native.Nat.{◌-◌}
 use Rattle.commit.proofs.holding.gather.Given as goal
 

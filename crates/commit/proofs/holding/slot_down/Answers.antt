@@ -1,6 +1,5 @@
 use Rattle.commit.proofs.SlotWrites.{slot_same, slot_moved_down}
 use native.Mathlib.Omega.{arith}
-use borrow.Author.Rules.{rules}
 use Rattle.commit.proofs.holding.slot_down.Goals as goal
 
 pub returns-then-to-from : goal.returns-then-to-from

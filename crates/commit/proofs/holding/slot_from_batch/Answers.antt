@@ -1,7 +1,6 @@
 use Rattle.commit.proofs.SlotWrites.{slot_lent, row_fits, slot_written}
 use mathlib.Core.Path.{refl}
 use native.Mathlib.Omega.{arith}
-use borrow.Author.Rules.{rules}
 use Rattle.commit.proofs.holding.slot_from_batch.Goals as goal
 
 pub write_slot-requires : goal.write_slot-requires

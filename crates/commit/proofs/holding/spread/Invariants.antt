@@ -1,6 +1,4 @@
-use borrow.Author.Rules.{rules}
-use Rattle.commit.proofs.HeldSlots.{Spreading, spread_start, spread_left, spread_held, spread_batch, spread_read, spread_end}
-use native.Mathlib.Omega.{arith}
+use Rattle.commit.proofs.HeldSlots.{Spreading}
 use Rattle.commit.proofs.holding.spread.Given as goal
 
 abbrev pub invariant-loop-p : goal.invariant-loop-p

@@ -1,6 +1,5 @@
 use Rattle.replicated_log.specs.Areas.{areas}
 use Rattle.cuwelfra.proofs.BatchLaws.{delta_exported}
-use borrow.Author.Rules.{rules}
 use Rattle.cuwelfra.proofs.batches.cuwelfra_apply_delta.Goals as goal
 
 pub returns : goal.returns

@@ -1,6 +1,5 @@
 use Rattle.replicated_log.specs.Areas.{areas}
 use Rattle.cuwelfra.proofs.BatchLaws.{floor_told}
-use borrow.Author.Rules.{rules}
 use Rattle.cuwelfra.proofs.batches.cuwelfra_set_floor.Goals as goal
 
 pub returns : goal.returns

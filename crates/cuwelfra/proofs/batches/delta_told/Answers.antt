@@ -1,4 +1,3 @@
-use borrow.Author.Rules.{rules}
 use Rattle.cuwelfra.proofs.batches.delta_told.Goals as goal
 
 pub returns-in-Report : goal.returns-in-Report

@@ -1,6 +1,5 @@
-use mathlib.Core.Path.{◌≡◌, ◌∙◌, ap}
+use mathlib.Core.Path.{◌∙◌, ap}
 use Rattle.cuwelfra.specs.Bytes.{envelope_told}
-use borrow.Author.Rules.{rules}
 use Rattle.cuwelfra.proofs.bytes.cuwelfra_decode_envelope.Goals as goal
 
 pub returns : goal.returns

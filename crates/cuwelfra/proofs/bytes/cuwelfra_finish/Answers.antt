@@ -1,6 +1,5 @@
-use mathlib.Core.Path.{◌≡◌, ◌∙◌, ap}
+use mathlib.Core.Path.{◌∙◌, ap}
 use Rattle.error.specs.Answer.{told_by}
-use borrow.Author.Rules.{rules}
 use Rattle.cuwelfra.proofs.bytes.cuwelfra_finish.Goals as goal
 
 pub returns-in-Done : goal.returns-in-Done

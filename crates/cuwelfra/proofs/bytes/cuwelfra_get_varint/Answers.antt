@@ -1,6 +1,5 @@
-use mathlib.Core.Path.{◌≡◌, ◌∙◌, ap}
+use mathlib.Core.Path.{◌∙◌, ap}
 use Rattle.cuwelfra.specs.Bytes.{number_told}
-use borrow.Author.Rules.{rules}
 use Rattle.cuwelfra.proofs.bytes.cuwelfra_get_varint.Goals as goal
 
 pub returns : goal.returns

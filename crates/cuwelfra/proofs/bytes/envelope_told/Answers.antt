@@ -1,4 +1,3 @@
-use borrow.Author.Rules.{rules}
 use Rattle.cuwelfra.proofs.bytes.envelope_told.Goals as goal
 
 pub returns-in-Envelope : goal.returns-in-Envelope

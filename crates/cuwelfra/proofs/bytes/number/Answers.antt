@@ -1,4 +1,3 @@
-use borrow.Author.Rules.{rules}
 use Rattle.cuwelfra.proofs.bytes.number.Goals as goal
 
 pub returns-in-Value : goal.returns-in-Value

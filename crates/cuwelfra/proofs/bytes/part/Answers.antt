@@ -1,4 +1,3 @@
-use borrow.Author.Rules.{rules}
 use Rattle.cuwelfra.proofs.bytes.part.Goals as goal
 
 pub returns-in-Part : goal.returns-in-Part

@@ -1,7 +1,4 @@
 use Rattle.cuwelfra.proofs.StoreLaws.{leaves_number}
-use mathlib.Core.Path.{◌≡◌, ◌∙◌, ap, sym, refl}
-use Rattle.cuwelfra.specs.Vectors.{count_told}
-use borrow.Author.Rules.{rules}
 use Rattle.cuwelfra.proofs.changes.cuwelfra_compact.Goals as goal
 
 pub returns : goal.returns

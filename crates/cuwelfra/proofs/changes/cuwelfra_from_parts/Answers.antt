@@ -1,7 +1,5 @@
-use mathlib.Core.Path.{◌≡◌, ◌∙◌, ap, sym, refl}
 use Rattle.error.specs.Answer.{told_by}
 use Rattle.cuwelfra.proofs.ExportLaws.{exports}
-use borrow.Author.Rules.{rules}
 use Rattle.cuwelfra.proofs.changes.cuwelfra_from_parts.Goals as goal
 
 pub returns : goal.returns

@@ -1,5 +1,4 @@
 use Rattle.cuwelfra.proofs.DeskLaws.{prepare_told}
-use borrow.Author.Rules.{rules}
 use Rattle.cuwelfra.proofs.desk.cuwelfra_prepare.Goals as goal
 
 pub returns : goal.returns

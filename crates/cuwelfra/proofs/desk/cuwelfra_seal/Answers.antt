@@ -1,6 +1,5 @@
 use Rattle.error.specs.Answer.{told_by}
 use Rattle.cuwelfra.proofs.ExportLaws.{exports}
-use borrow.Author.Rules.{rules}
 use Rattle.cuwelfra.proofs.desk.cuwelfra_seal.Goals as goal
 
 pub returns : goal.returns

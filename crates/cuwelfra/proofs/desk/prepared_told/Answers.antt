@@ -1,5 +1,4 @@
 use Rattle.cuwelfra.proofs.DeskLaws.{row_told_lem}
-use borrow.Author.Rules.{rules}
 use Rattle.cuwelfra.proofs.desk.prepared_told.Goals as goal
 
 pub returns : goal.returns

@@ -1,8 +1,5 @@
-use mathlib.Core.Path.{◌≡◌, ◌∙◌, ap}
-use Rattle.clock.specs.Hybrid.{now_call}
-use Rattle.clock.specs.declared.hybrid.HybridClock.{HybridClock}
+use mathlib.Core.Path.{◌∙◌, ap}
 use Rattle.cuwelfra.specs.Hybrids.{issued_told}
-use borrow.Author.Rules.{rules}
 use Rattle.cuwelfra.proofs.hybrid.cuwelfra_hybrid_now.Goals as goal
 
 pub returns : goal.returns

@@ -1,6 +1,5 @@
-use mathlib.Core.Path.{◌≡◌, ◌∙◌, ap, sym, refl}
+use mathlib.Core.Path.{◌∙◌, ap}
 use Rattle.cuwelfra.specs.Hybrids.{hybrid_told}
-use borrow.Author.Rules.{rules}
 use Rattle.cuwelfra.proofs.hybrid.cuwelfra_hybrid_set_max_drift.Goals as goal
 
 pub returns : goal.returns

@@ -1,6 +1,5 @@
-use mathlib.Core.Path.{◌≡◌, ◌∙◌, ap, sym, refl}
+use mathlib.Core.Path.{◌∙◌, ap, sym}
 use Rattle.cuwelfra.specs.Hybrids.{order_number}
-use borrow.Author.Rules.{rules}
 use Rattle.cuwelfra.proofs.hybrid.cuwelfra_timestamp_cmp.Goals as goal
 
 pub returns-in-Less : goal.returns-in-Less

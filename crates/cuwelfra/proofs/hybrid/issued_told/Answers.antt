@@ -1,4 +1,3 @@
-use borrow.Author.Rules.{rules}
 use Rattle.cuwelfra.proofs.hybrid.issued_told.Goals as goal
 
 pub returns-in-Stamp : goal.returns-in-Stamp

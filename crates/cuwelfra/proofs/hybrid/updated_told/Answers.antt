@@ -1,4 +1,3 @@
-use borrow.Author.Rules.{rules}
 use Rattle.cuwelfra.proofs.hybrid.updated_told.Goals as goal
 
 pub returns-in-Clock : goal.returns-in-Clock

@@ -1,5 +1,4 @@
 use Rattle.cuwelfra.proofs.MessageLaws.{message_exports}
-use borrow.Author.Rules.{rules}
 use Rattle.cuwelfra.proofs.messages.cuwelfra_decode_message.Goals as goal
 
 pub returns : goal.returns

@@ -1,6 +1,5 @@
 use Rattle.cuwelfra.specs.Bytes.{written_told}
 use Rattle.cuwelfra.proofs.ExportLaws.{exports}
-use borrow.Author.Rules.{rules}
 use Rattle.cuwelfra.proofs.messages.cuwelfra_encode_pong.Goals as goal
 
 pub returns : goal.returns

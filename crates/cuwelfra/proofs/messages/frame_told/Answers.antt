@@ -1,4 +1,3 @@
-use borrow.Author.Rules.{rules}
 use Rattle.cuwelfra.proofs.messages.frame_told.Goals as goal
 
 pub returns-in-Frame : goal.returns-in-Frame

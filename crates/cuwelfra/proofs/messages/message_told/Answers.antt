@@ -1,4 +1,3 @@
-use borrow.Author.Rules.{rules}
 use Rattle.cuwelfra.proofs.messages.message_told.Goals as goal
 
 pub returns-in-Message : goal.returns-in-Message

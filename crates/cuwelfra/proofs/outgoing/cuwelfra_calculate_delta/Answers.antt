@@ -1,7 +1,5 @@
-use mathlib.Core.Path.{◌≡◌, ◌∙◌, ap, sym, refl}
 use Rattle.cuwelfra.specs.Vectors.{count_told}
 use Rattle.cuwelfra.proofs.ExportLaws.{exports}
-use borrow.Author.Rules.{rules}
 use Rattle.cuwelfra.proofs.outgoing.cuwelfra_calculate_delta.Goals as goal
 
 pub returns : goal.returns

@@ -1,6 +1,5 @@
 use Rattle.cuwelfra.specs.Vectors.{count_told}
 use Rattle.cuwelfra.proofs.ExportLaws.{exports}
-use borrow.Author.Rules.{rules}
 use Rattle.cuwelfra.proofs.outgoing.cuwelfra_delta_sizes.Goals as goal
 
 pub returns : goal.returns

@@ -1,6 +1,5 @@
 use native.Mathlib.Omega.{arith}
 use Rattle.cuwelfra.proofs.PeerLaws.{new_short, new_peer_lem}
-use borrow.Author.Rules.{rules}
 use Rattle.cuwelfra.proofs.peers.cuwelfra_peer_new.Goals as goal
 
 pub returns-then-area-lt704 : goal.returns-then-area-lt704

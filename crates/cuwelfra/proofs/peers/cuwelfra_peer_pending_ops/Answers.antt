@@ -1,7 +1,6 @@
-use mathlib.Core.Path.{◌≡◌, ◌∙◌, ap, sym, refl}
+use mathlib.Core.Path.{◌∙◌, sym}
 use native.Mathlib.Omega.{arith}
 use Rattle.cuwelfra.proofs.PeerLaws.{pending_short, pending_ok, pending_stateless, pending_refused}
-use borrow.Author.Rules.{rules}
 use Rattle.cuwelfra.proofs.peers.cuwelfra_peer_pending_ops.Goals as goal
 
 pub returns-then-area-lt704 : goal.returns-then-area-lt704

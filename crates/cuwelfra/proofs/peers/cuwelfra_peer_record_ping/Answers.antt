@@ -1,9 +1,8 @@
-use mathlib.Core.Path.{◌≡◌, ◌∙◌, ap, sym, refl}
+use mathlib.Core.Path.{◌∙◌, ap, sym}
 use native.Mathlib.Omega.{arith}
 use borrow.Author.Tests.{not-true, not-false}
 use Rattle.cuwelfra.specs.Peers.{record_ping_area}
 use Rattle.cuwelfra.proofs.PeerLaws.{long_peer_lem, short_peer, lent_short, lent_stateless, lent_kept}
-use borrow.Author.Rules.{rules}
 use Rattle.std.proofs.Common.{not}
 use Rattle.cuwelfra.proofs.peers.cuwelfra_peer_record_ping.Goals as goal
 

@@ -1,8 +1,7 @@
-use mathlib.Core.Path.{◌≡◌, ◌∙◌, ap, sym, refl}
+use mathlib.Core.Path.{ap}
 use Rattle.peer.specs.Area.{state_ok}
 use Prim.Native.Nat.{ℕ}
 use lib.Dec.{leb}
-use borrow.Author.Rules.{rules}
 use Rattle.cuwelfra.proofs.peers.is_state.Goals as goal
 
 pub returns : goal.returns

@@ -1,5 +1,4 @@
 use Rattle.cuwelfra.proofs.PeerLaws.{peer_done, peer_refused}
-use borrow.Author.Rules.{rules}
 use Rattle.cuwelfra.proofs.peers.keep_peer.Goals as goal
 
 pub returns-in-Done : goal.returns-in-Done

@@ -1,6 +1,5 @@
-use mathlib.Core.Path.{◌≡◌, ◌∙◌, ap, sym, refl}
+use mathlib.Core.Path.{◌∙◌, ap}
 use Rattle.cuwelfra.specs.Stores.{op_told}
-use borrow.Author.Rules.{rules}
 use Rattle.cuwelfra.proofs.rows.cuwelfra_read_op.Goals as goal
 
 pub returns : goal.returns

@@ -1,7 +1,4 @@
-use mathlib.Core.Path.{◌≡◌, ◌∙◌, ap, sym, refl}
-use Rattle.cuwelfra.specs.Bytes.{written_told}
 use Rattle.cuwelfra.proofs.StoreLaws.{written_row}
-use borrow.Author.Rules.{rules}
 use Rattle.cuwelfra.proofs.rows.cuwelfra_signed_op.Goals as goal
 
 pub returns : goal.returns

@@ -1,4 +1,3 @@
-use borrow.Author.Rules.{rules}
 use Rattle.cuwelfra.proofs.rows.op_told.Goals as goal
 
 pub returns-in-Read : goal.returns-in-Read

@@ -1,6 +1,5 @@
-use mathlib.Core.Path.{◌≡◌, ◌∙◌, ap, sym, refl}
+use mathlib.Core.Path.{◌∙◌, ap}
 use Rattle.cuwelfra.specs.Vectors.{cover_told}
-use borrow.Author.Rules.{rules}
 use Rattle.cuwelfra.proofs.store.cuwelfra_can_serve.Goals as goal
 
 pub returns : goal.returns

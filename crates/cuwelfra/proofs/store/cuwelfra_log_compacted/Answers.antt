@@ -1,7 +1,5 @@
-use mathlib.Core.Path.{◌≡◌, ◌∙◌, ap, sym, refl}
 use native.Mathlib.Omega.{arith}
 use Rattle.cuwelfra.proofs.StoreLaws.{clock_short}
-use borrow.Author.Rules.{rules}
 use Rattle.cuwelfra.proofs.store.cuwelfra_log_compacted.Goals as goal
 
 pub returns-then-clock-lt520 : goal.returns-then-clock-lt520

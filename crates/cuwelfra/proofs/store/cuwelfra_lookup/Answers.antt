@@ -1,9 +1,8 @@
-use mathlib.Core.Path.{◌≡◌, ◌∙◌, ap, sym, refl}
+use mathlib.Core.Path.{◌∙◌, ap, sym, refl}
 use Rattle.cuwelfra.proofs.StoreLaws.{found_logged, found_held, found_absent, found_refused}
 use Rattle.replicated_log.specs.Areas.{areas}
 use Rattle.replicated_log.specs.Answers.{found_of}
 use Rattle.replicated_log.proofs.Calls.Queries.{logged_there, held_there}
-use borrow.Author.Rules.{rules}
 use Rattle.cuwelfra.proofs.store.cuwelfra_lookup.Goals as goal
 
 pub payload-payload-requires : goal.payload-payload-requires

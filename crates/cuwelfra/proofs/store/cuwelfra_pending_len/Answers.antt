@@ -1,6 +1,5 @@
-use mathlib.Core.Path.{◌≡◌, ◌∙◌, ap, sym, refl}
+use mathlib.Core.Path.{◌∙◌, ap}
 use Rattle.cuwelfra.specs.Vectors.{count_told}
-use borrow.Author.Rules.{rules}
 use Rattle.cuwelfra.proofs.store.cuwelfra_pending_len.Goals as goal
 
 pub returns : goal.returns

@@ -1,6 +1,5 @@
-use mathlib.Core.Path.{◌≡◌, ◌∙◌, ap, sym, refl}
+use mathlib.Core.Path.{◌∙◌, ap}
 use Rattle.error.specs.Answer.{told_by}
-use borrow.Author.Rules.{rules}
 use Rattle.cuwelfra.proofs.store.cuwelfra_store_check.Goals as goal
 
 pub returns : goal.returns

@@ -1,4 +1,3 @@
-use borrow.Author.Rules.{rules}
 use Rattle.cuwelfra.proofs.store.found.Goals as goal
 
 pub returns : goal.returns

@@ -1,7 +1,4 @@
-use mathlib.Core.Path.{◌≡◌, ◌∙◌, ap, sym, refl}
-use native.Mathlib.Omega.{arith}
 use Rattle.cuwelfra.proofs.StoreLaws.{clock_done, clock_refused}
-use borrow.Author.Rules.{rules}
 use Rattle.cuwelfra.proofs.store.put_clock.Goals as goal
 
 pub returns-in-Done : goal.returns-in-Done

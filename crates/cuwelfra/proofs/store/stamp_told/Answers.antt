@@ -1,4 +1,3 @@
-use borrow.Author.Rules.{rules}
 use Rattle.cuwelfra.proofs.store.stamp_told.Goals as goal
 
 pub returns-in-None : goal.returns-in-None

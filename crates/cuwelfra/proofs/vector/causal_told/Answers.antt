@@ -1,4 +1,3 @@
-use borrow.Author.Rules.{rules}
 use Rattle.cuwelfra.proofs.vector.causal_told.Goals as goal
 
 pub returns-in-Before : goal.returns-in-Before

@@ -1,4 +1,3 @@
-use borrow.Author.Rules.{rules}
 use Rattle.cuwelfra.proofs.vector.clock_told.Goals as goal
 
 pub returns-in-Number : goal.returns-in-Number

@@ -1,4 +1,3 @@
-use borrow.Author.Rules.{rules}
 use Rattle.cuwelfra.proofs.vector.cover_told.Goals as goal
 
 pub returns-in-Covers : goal.returns-in-Covers

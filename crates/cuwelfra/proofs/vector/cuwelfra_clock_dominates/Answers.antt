@@ -1,8 +1,7 @@
-use mathlib.Core.Path.{◌≡◌, ◌∙◌, ap, sym, refl}
+use mathlib.Core.Path.{◌∙◌, ap}
 use native.Mathlib.Omega.{arith}
 use Rattle.cuwelfra.specs.Vectors.{dominates_area, cover_told}
 use Rattle.cuwelfra.proofs.VectorLaws.{both_long, own_short, other_short}
-use borrow.Author.Rules.{rules}
 use Rattle.cuwelfra.proofs.vector.cuwelfra_clock_dominates.Goals as goal
 
 pub returns-then-clock-lt520 : goal.returns-then-clock-lt520

@@ -1,8 +1,6 @@
-use mathlib.Core.Path.{◌≡◌, ◌∙◌, ap, sym, refl}
 use native.Mathlib.Omega.{arith}
 use Rattle.cuwelfra.specs.Vectors.{increment_area}
 use Rattle.cuwelfra.proofs.VectorLaws.{is_long, is_short, short_number, long_number}
-use borrow.Author.Rules.{rules}
 use Rattle.cuwelfra.proofs.vector.cuwelfra_clock_increment.Goals as goal
 
 pub returns-then-clock-lt520 : goal.returns-then-clock-lt520

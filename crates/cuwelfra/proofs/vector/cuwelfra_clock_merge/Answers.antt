@@ -1,8 +1,6 @@
-use mathlib.Core.Path.{◌≡◌, ◌∙◌, ap, sym, refl}
 use native.Mathlib.Omega.{arith}
 use Rattle.cuwelfra.specs.Vectors.{merge_area}
 use Rattle.cuwelfra.proofs.VectorLaws.{both_long, own_short, other_short, short_kept, long_kept}
-use borrow.Author.Rules.{rules}
 use Rattle.cuwelfra.proofs.vector.cuwelfra_clock_merge.Goals as goal
 
 pub returns-then-clock-lt520 : goal.returns-then-clock-lt520

@@ -1,7 +1,4 @@
 use Rattle.cuwelfra.proofs.VectorLaws.{kept_done, kept_refused}
-use mathlib.Core.Path.{◌≡◌, ◌∙◌, ap, sym, refl}
-use mathlib.Core.Path.{◌≡◌, ◌∙◌, ap, sym, refl}
-use borrow.Author.Rules.{rules}
 use Rattle.cuwelfra.proofs.vector.keep.Goals as goal
 
 pub returns-in-Done : goal.returns-in-Done

@@ -1,5 +1,4 @@
 use Rattle.cuwelfra.proofs.VectorLaws.{number_done, number_refused}
-use borrow.Author.Rules.{rules}
 use Rattle.cuwelfra.proofs.vector.keep_number.Goals as goal
 
 pub returns-in-Number : goal.returns-in-Number

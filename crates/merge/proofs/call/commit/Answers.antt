@@ -1,4 +1,3 @@
-use borrow.Author.Rules.{rules}
 use Rattle.merge.proofs.call.commit.Goals as goal
 
 pub returns : goal.returns

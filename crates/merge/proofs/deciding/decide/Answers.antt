@@ -1,7 +1,6 @@
 use Rattle.replicated_log.specs.Areas.{areas}
 use Rattle.merge.proofs.PartAnswers.{was_ready, was_denied, begins, starts_known}
 use Rattle.merge.proofs.CallAnswers.{decides, refuses}
-use borrow.Author.Rules.{rules}
 use Rattle.merge.proofs.deciding.decide.Goals as goal
 
 pub decide_rows-requires : goal.decide_rows-requires

@@ -1,7 +1,6 @@
 use mathlib.Core.Path.{sym, ◌∙◌, ap}
 use Rattle.clock.specs.Vector.{outcome_of}
 use Rattle.merge.proofs.CallAnswers.{quota_refused, quota_passed}
-use borrow.Author.Rules.{rules}
 use Rattle.merge.proofs.deciding.judge.Goals as goal
 
 pub returns-in-Refused : goal.returns-in-Refused

@@ -3,7 +3,6 @@ use native.Mathlib.Omega.{arith}
 use borrow.Author.Tests.{not-true, not-false}
 use Rattle.clock.specs.Vector.{outcome_of}
 use Rattle.merge.proofs.Preparation.{read_by, unread_by, starts_by, unread, no_room, invalid, taken_in}
-use borrow.Author.Rules.{rules}
 use Rattle.std.proofs.Common.{not}
 use Rattle.merge.proofs.deciding.take_in.Goals as goal
 

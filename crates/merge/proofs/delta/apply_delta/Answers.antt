@@ -1,6 +1,5 @@
 use Rattle.replicated_log.specs.Areas.{areas}
 use Rattle.merge.proofs.JoinedCall.{rows_begin, delta_refused, delta_accepted}
-use borrow.Author.Rules.{rules}
 use Rattle.merge.proofs.delta.apply_delta.Goals as goal
 
 pub fold_stamps-folded-requires : goal.fold_stamps-folded-requires

@@ -1,6 +1,5 @@
 use Rattle.row.proofs.ReadSteps.{num, no_num}
 use Rattle.merge.proofs.FoldLoop.{has_count, stamps_count}
-use borrow.Author.Rules.{rules}
 use Rattle.merge.proofs.folding.count_rows.Goals as goal
 
 pub returns-in_default : goal.returns-in_default

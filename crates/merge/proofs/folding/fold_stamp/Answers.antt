@@ -1,5 +1,4 @@
 use Rattle.merge.proofs.FoldLoop.{fold_passes, fold_fails}
-use borrow.Author.Rules.{rules}
 use Rattle.merge.proofs.folding.fold_stamp.Goals as goal
 
 pub returns-in-Clock : goal.returns-in-Clock

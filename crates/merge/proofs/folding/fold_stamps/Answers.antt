@@ -1,8 +1,6 @@
-use Prim.Native.Nat.{◌-◌}
 use mathlib.Core.Path.{refl}
 use native.Mathlib.Omega.{arith}
-use borrow.Author.Rules.{rules}
-use Rattle.merge.proofs.FoldLoop.{Folding, folding_start, folding_end, in_starts, failed_few, row_read, folding_turn}
+use Rattle.merge.proofs.FoldLoop.{folding_start, folding_end, in_starts, failed_few, row_read, folding_turn}
 use Rattle.merge.proofs.folding.fold_stamps.Goals as goal
 
 pub count_rows-rows-requires : goal.count_rows-rows-requires

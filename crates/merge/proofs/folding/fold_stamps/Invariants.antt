@@ -1,8 +1,5 @@
 use Prim.Native.Nat.{◌-◌}
-use mathlib.Core.Path.{refl}
-use native.Mathlib.Omega.{arith}
-use borrow.Author.Rules.{rules}
-use Rattle.merge.proofs.FoldLoop.{Folding, folding_start, folding_end, in_starts, failed_few, row_read, folding_turn}
+use Rattle.merge.proofs.FoldLoop.{Folding}
 use Rattle.merge.proofs.folding.fold_stamps.Given as goal
 
 abbrev pub invariant-loop-i : goal.invariant-loop-i

@@ -4,7 +4,6 @@ use borrow.Author.Tests.{not-true, not-false}
 use Rattle.peer.proofs.PeerCalls.{on_sound_lem, unsound}
 use Rattle.peer.specs.Peers.{absorbed}
 use Rattle.peer.specs.Peers.{absorb_call}
-use borrow.Author.Rules.{rules}
 use Rattle.error.specs.Answer.{ends}
 use Rattle.std.proofs.Common.{ap, not}
 use Rattle.peer.proofs.Peer.absorb_clock.Goals as goal

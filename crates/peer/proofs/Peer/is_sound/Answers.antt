@@ -1,5 +1,4 @@
 use Rattle.peer.proofs.PeerCalls.{sound_sent, sound_answered, sound_rest}
-use borrow.Author.Rules.{rules}
 use Rattle.peer.proofs.Peer.is_sound.Goals as goal
 
 pub returns-then-outstanding-gt8 : goal.returns-then-outstanding-gt8

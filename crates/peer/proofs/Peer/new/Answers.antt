@@ -1,6 +1,5 @@
 use Rattle.peer.specs.Peers.{new_peer, pings_of}
 use Rattle.words.specs.Areas.{pad}
-use borrow.Author.Rules.{rules}
 use Rattle.peer.proofs.Peer.new.Goals as goal
 
 pub returns : goal.returns

@@ -6,7 +6,6 @@ use Rattle.replicated_log.proofs.Calls.Queries.{Passed, passed, stopped}
 use Rattle.replicated_log.proofs.Store.Soundness.{log_slots}
 use Rattle.replicated_log.specs.Areas.{Areas, areas}
 use Rattle.replicated_log.proofs.Store.Encoding.{capacity_room}
-use borrow.Author.Rules.{rules}
 use Rattle.peer.proofs.Peer.pending_ops.Goals as goal
 
 pub pending_in-requires : goal.pending_in-requires

@@ -2,7 +2,6 @@ use mathlib.Core.Path.{sym, ◌∙◌}
 use borrow.Author.Tests.{not-true, not-false}
 use Rattle.peer.proofs.PeerCalls.{few_sent, few_answered, on_sound_lem, unsound}
 use Rattle.peer.specs.Peers.{take_pong_call}
-use borrow.Author.Rules.{rules}
 use Rattle.std.proofs.Common.{ap, not}
 use Rattle.peer.proofs.Peer.ponged.Goals as goal
 

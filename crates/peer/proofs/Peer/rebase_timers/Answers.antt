@@ -3,7 +3,6 @@ use borrow.Author.Tests.{not-true, not-false}
 use Rattle.peer.proofs.PeerCalls.{on_sound_lem, unsound}
 use Rattle.peer.specs.Peers.{with_times}
 use Rattle.peer.specs.Peers.{rebase_call}
-use borrow.Author.Rules.{rules}
 use Rattle.error.specs.Answer.{ends, done, nothing}
 use Rattle.std.proofs.Common.{ap, not}
 use Rattle.peer.proofs.Peer.rebase_timers.Goals as goal

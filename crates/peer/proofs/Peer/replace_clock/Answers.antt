@@ -2,7 +2,6 @@ use mathlib.Core.Path.{sym, ◌∙◌}
 use borrow.Author.Tests.{not-true, not-false}
 use Rattle.peer.proofs.PeerCalls.{on_sound_lem, unsound}
 use Rattle.peer.specs.Peers.{replace_call}
-use borrow.Author.Rules.{rules}
 use Rattle.error.specs.Answer.{ends, done, nothing}
 use Rattle.std.proofs.Common.{ap, not}
 use Rattle.peer.proofs.Peer.replace_clock.Goals as goal

@@ -1,10 +1,7 @@
-use borrow.Author.Rules.{rules}
 use Prim.Native.Nat.{◌-◌, ◌≤◌}
 use mathlib.Core.Path.{◌≡◌}
-use native.Mathlib.Omega.{arith}
 use lib.ListN.{length}
-use lib.Seq.{paste, paste-zero}
-use Rattle.words.proofs.Puts.{copy_turn, copy_done}
+use lib.Seq.{paste}
 use Rattle.peer.proofs.nonces.copy.Given as goal
 
 abbrev pub invariant-loop-i : goal.invariant-loop-i

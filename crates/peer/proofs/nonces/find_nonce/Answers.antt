@@ -1,10 +1,7 @@
 use borrow.Author.Rules.{rules}
-use Prim.Native.Nat.{ℕ, ◌-◌, ◌≤◌}
-use mathlib.Core.Path.{◌≡◌, sym, ◌∙◌}
 use native.Mathlib.Omega.{arith}
-use lib.ListN.{length, take, length-map}
 use Rattle.peer.specs.Peers.{nonces}
-use Rattle.peer.proofs.NonceLists.{Rest, find_start, find_here, find_turn, find_end}
+use Rattle.peer.proofs.NonceLists.{find_start, find_here, find_turn, find_end}
 use Rattle.peer.proofs.nonces.find_nonce.Goals as goal
 
 pub loop-i-init : goal.loop-i-init

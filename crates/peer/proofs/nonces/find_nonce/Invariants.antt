@@ -1,10 +1,6 @@
-use borrow.Author.Rules.{rules}
-use Prim.Native.Nat.{ℕ, ◌-◌, ◌≤◌}
-use mathlib.Core.Path.{◌≡◌, sym, ◌∙◌}
-use native.Mathlib.Omega.{arith}
-use lib.ListN.{length, take, length-map}
-use Rattle.peer.specs.Peers.{nonces}
-use Rattle.peer.proofs.NonceLists.{Rest, find_start, find_here, find_turn, find_end}
+use Prim.Native.Nat.{◌-◌, ◌≤◌}
+use lib.ListN.{take}
+use Rattle.peer.proofs.NonceLists.{Rest}
 use Rattle.peer.proofs.nonces.find_nonce.Given as goal
 
 abbrev pub invariant-loop-i : goal.invariant-loop-i

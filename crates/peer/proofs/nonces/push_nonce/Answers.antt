@@ -1,9 +1,5 @@
-use Prim.Native.Nat.{ℕ}
-use mathlib.Core.Path.{◌≡◌, sym, ◌∙◌}
 use native.Mathlib.Omega.{arith}
-use lib.ListN.{length, length-map}
 use Rattle.peer.proofs.NonceLists.{pushed, pushed_out}
-use borrow.Author.Rules.{rules}
 use Rattle.peer.proofs.nonces.push_nonce.Goals as goal
 
 pub slice_bounds-copy-end-then-count-lt8 : goal.slice_bounds-copy-end-then-count-lt8

@@ -1,6 +1,5 @@
 use mathlib.Core.Path.{◌∙◌, ap}
 use Rattle.peer.specs.Area.{peer_at, state_of}
-use borrow.Author.Rules.{rules}
 use Rattle.peer.proofs.raw.load_peer.Goals as goal
 
 pub returns : goal.returns

@@ -1,12 +1,7 @@
-use borrow.Author.Rules.{rules}
 use Prim.Native.Nat.{ℕ, ◌+◌, ◌-◌, ◌*◌, ◌≤◌, ◌<◌}
-use mathlib.Core.Path.{◌≡◌, refl}
-use native.Mathlib.Omega.{arith}
-use lib.ListN.{length, get_or, length-set}
+use mathlib.Core.Path.{◌≡◌}
+use lib.ListN.{length, get_or}
 use Rattle.words.specs.Be.{get64}
-use Rattle.words.proofs.Puts.{fill_turn}
-use Rattle.peer.specs.Area.{pings_at}
-use Rattle.peer.proofs.PeerArea.{words_are}
 use Rattle.peer.proofs.raw.load_pings.Given as goal
 
 abbrev pub invariant-loop-i : goal.invariant-loop-i

@@ -1,12 +1,9 @@
 use Rattle.std.proofs.Common.{arith}
-use Prim.Native.Nat.{ℕ}
-use mathlib.Core.Path.{◌≡◌, sym, ◌∙◌}
+use mathlib.Core.Path.{◌∙◌}
 use mathlib.Core.List.{[], ◌∷◌}
-use lib.ListN.{length, length-map}
 use Rattle.words.specs.Be.{bes}
 use Rattle.words.specs.Areas.{put_at}
 use Rattle.peer.proofs.PeerArea.{peer_stored}
-use borrow.Author.Rules.{rules}
 use Rattle.peer.proofs.raw.store_peer.Goals as goal
 
 pub returns : goal.returns

@@ -1,9 +1,5 @@
-use Prim.Native.Nat.{ℕ}
-use mathlib.Core.Path.{◌≡◌, sym, ◌∙◌}
 use native.Mathlib.Omega.{arith}
-use lib.ListN.{length, length-map}
 use Rattle.peer.proofs.PeerArea.{pings_stored}
-use borrow.Author.Rules.{rules}
 use Rattle.peer.proofs.raw.store_pings.Goals as goal
 
 pub put_words-requires : goal.put_words-requires

@@ -1,7 +1,6 @@
 use mathlib.Core.Path.{sym, ◌∙◌, ap}
 use Rattle.row.specs.Rows.{Row}
 use Rattle.working.proofs.ReferenceRows.{ok_held, ok_batch, row_held, row_batch, head_fields, no_head_lem}
-use borrow.Author.Rules.{rules}
 use Rattle.row.specs.Values.{head_of}
 use Rattle.quota.proofs.authors.author_of.Goals as goal
 

@@ -1,5 +1,4 @@
 use Rattle.quota.proofs.AuthorCounts.{over_none, over_loaded}
-use borrow.Author.Rules.{rules}
 use Rattle.quota.proofs.authors.author_over.Goals as goal
 
 pub returns-then-n-limit : goal.returns-then-n-limit

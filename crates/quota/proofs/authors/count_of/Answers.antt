@@ -1,8 +1,6 @@
 use borrow.Author.Rules.{rules}
-use Prim.Native.Nat.{◌-◌, ◌≤◌}
-use mathlib.Core.Logic.{⊎_elim}
 use native.Mathlib.Omega.{arith}
-use Rattle.quota.proofs.AuthorCounts.{Counted, count_start, count_yes, count_no, count_end}
+use Rattle.quota.proofs.AuthorCounts.{count_start, count_yes, count_no, count_end}
 use Rattle.quota.proofs.authors.count_of.Goals as goal
 use Rattle.quota.proofs.authors.count_of.Goals.{then-authors-i, else-authors-i}
 
@@ -25,9 +23,9 @@ pub loop-i-smaller : goal.loop-i-smaller
 loop-i-smaller c = omega arith
 
 pub loop-i-preserved : goal.loop-i-preserved
-loop-i-preserved c = 
+loop-i-preserved c =
     elim c.if-authors-i.branch [
-        then-authors-i w ↦ (omega arith, omega arith, count_yes _ _ _ _ c.loop-i.i c.loop-i-test.true c.requires c.loop-i.invariant.2 _ w.count-is w.if-authors-i.true)
+      | then-authors-i w ↦ (omega arith, omega arith, count_yes _ _ _ _ c.loop-i.i c.loop-i-test.true c.requires c.loop-i.invariant.2 _ w.count-is w.if-authors-i.true)
       | else-authors-i w ↦ (omega arith, omega arith, count_no _ _ _ _ c.loop-i.i c.loop-i-test.true c.requires c.loop-i.invariant.2 _ w.count-is w.if-authors-i.false)
     ]
 

@@ -1,8 +1,5 @@
-use borrow.Author.Rules.{rules}
 use Prim.Native.Nat.{◌-◌, ◌≤◌}
-use mathlib.Core.Logic.{⊎_elim}
-use native.Mathlib.Omega.{arith}
-use Rattle.quota.proofs.AuthorCounts.{Counted, count_start, count_yes, count_no, count_end}
+use Rattle.quota.proofs.AuthorCounts.{Counted}
 use Rattle.quota.proofs.authors.count_of.Given as goal
 
 abbrev pub invariant-loop-i : goal.invariant-loop-i

@@ -1,10 +1,9 @@
 use borrow.Author.Rules.{rules}
-use Prim.Native.Nat.{◌-◌, ◌≤◌}
-use mathlib.Core.Path.{◌≡◌, ◌∙◌, ap}
+use mathlib.Core.Path.{◌∙◌, ap}
 use native.Mathlib.Omega.{arith}
-use lib.ListN.{length, length-set}
+use lib.ListN.{length-set}
 use Rattle.words.specs.Be.{get64}
-use Rattle.quota.proofs.AuthorCounts.{ref_at_lem, Loaded, load_start, load_turn, load_end}
+use Rattle.quota.proofs.AuthorCounts.{ref_at_lem, load_start, load_turn, load_end}
 use Rattle.quota.proofs.authors.load_authors.Goals as goal
 
 pub loop-i-init : goal.loop-i-init

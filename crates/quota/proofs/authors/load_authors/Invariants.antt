@@ -1,10 +1,7 @@
-use borrow.Author.Rules.{rules}
 use Prim.Native.Nat.{◌-◌, ◌≤◌}
-use mathlib.Core.Path.{◌≡◌, ◌∙◌, ap}
-use native.Mathlib.Omega.{arith}
-use lib.ListN.{length, length-set}
-use Rattle.words.specs.Be.{get64}
-use Rattle.quota.proofs.AuthorCounts.{ref_at_lem, Loaded, load_start, load_turn, load_end}
+use mathlib.Core.Path.{◌≡◌}
+use lib.ListN.{length}
+use Rattle.quota.proofs.AuthorCounts.{Loaded}
 use Rattle.quota.proofs.authors.load_authors.Given as goal
 
 abbrev pub invariant-loop-i : goal.invariant-loop-i

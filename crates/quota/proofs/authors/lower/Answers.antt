@@ -1,4 +1,3 @@
-use borrow.Author.Rules.{rules}
 use Rattle.merging.specs.Merging.{lower}
 use Rattle.quota.proofs.AuthorCounts.{lower_found, lower_new}
 use Rattle.quota.proofs.authors.lower.Goals as goal

@@ -1,10 +1,8 @@
 use borrow.Author.Rules.{rules}
-use Prim.Native.Nat.{◌-◌, ◌≤◌}
 use mathlib.Core.Path.{refl, ap, ◌∙◌}
-use mathlib.Core.Logic.{⊎_elim}
 use native.Mathlib.Omega.{arith}
 use Rattle.quota.specs.Inside.Authors.{over_of}
-use Rattle.quota.proofs.AuthorCounts.{Lowest, lowest_start, lowest_yes, lowest_no, lowest_end}
+use Rattle.quota.proofs.AuthorCounts.{lowest_start, lowest_yes, lowest_no, lowest_end}
 use Rattle.quota.proofs.authors.lowest_over.Goals as goal
 use Rattle.quota.proofs.authors.lowest_over.Goals.{then-count-limit, else-count-limit}
 
@@ -29,7 +27,7 @@ loop-i-smaller c = omega arith
 pub loop-i-preserved : goal.loop-i-preserved
 loop-i-preserved c =
     elim c.if-count-limit.branch [
-        then-count-limit w ↦ (omega arith, lowest_yes _ _ _ _ c.loop-i.i _ _ c.loop-i-test.true c.requires refl c.count_of-count.ensures c.loop-i.invariant.1 _ w.if-count-limit.true (ap over_of w.found-is ∙ w.lower-found.ensures))
+      | then-count-limit w ↦ (omega arith, lowest_yes _ _ _ _ c.loop-i.i _ _ c.loop-i-test.true c.requires refl c.count_of-count.ensures c.loop-i.invariant.1 _ w.if-count-limit.true (ap over_of w.found-is ∙ w.lower-found.ensures))
       | else-count-limit w ↦ (omega arith, lowest_no _ _ _ _ c.loop-i.i _ _ c.loop-i-test.true c.requires refl c.count_of-count.ensures c.loop-i.invariant.1 _ w.if-count-limit.false (ap over_of w.found-is))
     ]
 

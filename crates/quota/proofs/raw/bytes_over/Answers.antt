@@ -1,5 +1,4 @@
 use Rattle.quota.proofs.AuthorCounts.{bytes_within_lem, bytes_are}
-use borrow.Author.Rules.{rules}
 use Rattle.quota.proofs.raw.bytes_over.Goals as goal
 
 pub returns-then-n-limit : goal.returns-then-n-limit

@@ -1,9 +1,8 @@
-use Prim.Native.Nat.{◌-◌, ◌*◌}
+use Prim.Native.Nat.{◌*◌}
 use native.Mathlib.Omega.{arith}
 use Rattle.row.proofs.Operations.{in_area}
 use Rattle.working.proofs.ReferenceRows.{ok_held, ok_batch, row_held, row_batch}
 use Rattle.quota.proofs.AuthorCounts.{held_payload, batch_payload}
-use borrow.Author.Rules.{rules}
 use Rattle.quota.proofs.raw.payload_len.Goals as goal
 
 pub get_word-requires : goal.get_word-requires

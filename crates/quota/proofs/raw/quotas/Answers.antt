@@ -1,7 +1,6 @@
 use mathlib.Core.Path.{sym, ◌∙◌, ap}
 use Rattle.quota.specs.Inside.Authors.{over_of}
 use Rattle.quota.proofs.AuthorCounts.{quota_rows, quota_bytes, quota_done, quota_over}
-use borrow.Author.Rules.{rules}
 use Rattle.quota.proofs.raw.quotas.Goals as goal
 
 pub returns-then-n-limits : goal.returns-then-n-limits

@@ -1,7 +1,6 @@
 use native.Mathlib.Omega.{arith}
 use Rattle.replicated_log.proofs.Calls.Changes.{sound_long}
 use Rattle.quota.proofs.RoomTest.{sound_count, sound_marked, room_full, room_clock, room_marks, room_done}
-use borrow.Author.Rules.{rules}
 use Rattle.std.proofs.Common.{ap, not}
 use Rattle.quota.proofs.raw.room.Goals as goal
 

@@ -1,12 +1,10 @@
 use borrow.Author.Rules.{rules}
-use Prim.Native.Nat.{ℕ, ◌+◌, ◌-◌, ◌*◌, ◌≤◌, ◌<◌}
-use mathlib.Core.Path.{◌≡◌, refl}
-use mathlib.Core.Bool.{true}
+use Prim.Native.Nat.{ℕ, ◌+◌, ◌*◌}
+use mathlib.Core.Path.{refl}
 use native.Mathlib.Omega.{arith}
-use lib.ListN.{length, drop, get_or, length-set}
+use lib.ListN.{length-set}
 use Rattle.words.specs.Be.{get64}
 use Rattle.words.proofs.Puts.{fill_turn}
-use Rattle.clock.specs.Vector.{zeros}
 use Rattle.clock.proofs.ClockEntries.{zeros_replicate}
 use Rattle.quota.proofs.RoomTest.{marked_entries, marked_sound, zeros_turn}
 use Rattle.quota.proofs.room.marked_authors.Goals as goal

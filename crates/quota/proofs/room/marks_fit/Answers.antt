@@ -1,4 +1,3 @@
-use borrow.Author.Rules.{rules}
 use Rattle.quota.proofs.room.marks_fit.Goals as goal
 
 pub returns : goal.returns

@@ -1,4 +1,3 @@
-use borrow.Author.Rules.{rules}
 use Rattle.sync.proofs.DeltaLoops.{one_is, most_is}
 use Rattle.sync.proofs.chunk.at_least_one.Goals as goal
 

@@ -1,10 +1,7 @@
-use borrow.Author.Rules.{rules}
-use Prim.Native.Nat.{◌-◌}
 use mathlib.Core.Path.{sym, ◌∙◌}
 use native.Mathlib.Omega.{arith}
 use borrow.Author.Tests.{not-true, not-false}
-use Rattle.clock.specs.Vector.{entries}
-use Rattle.sync.proofs.DeltaLoops.{Tallying, tallying_start, tallying_skip, tallying_next, tallying_grow, tallying_none, tallying_last}
+use Rattle.sync.proofs.DeltaLoops.{tallying_start, tallying_skip, tallying_next, tallying_grow, tallying_none, tallying_last}
 use Rattle.std.proofs.Common.{ap, not}
 use Rattle.sync.proofs.chunk.count_chunks.Goals as goal
 

@@ -1,4 +1,3 @@
-use borrow.Author.Rules.{rules}
 use Rattle.sync.proofs.chunk.row_size.Goals as goal
 
 pub returns : goal.returns

@@ -1,6 +1,5 @@
 use native.Mathlib.Omega.{arith}
 use Rattle.sync.proofs.SizeLoops.{row_is}
-use borrow.Author.Rules.{rules}
 use Rattle.sync.proofs.chunk.row_sizes.Goals as goal
 
 pub returns : goal.returns

@@ -1,4 +1,3 @@
-use borrow.Author.Rules.{rules}
 use Rattle.sync.proofs.DeltaLoops.{next_empty, next_full, next_large}
 use Rattle.sync.proofs.chunk.starts_next.Goals as goal
 

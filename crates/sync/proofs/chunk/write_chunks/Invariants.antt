@@ -1,11 +1,6 @@
-use borrow.Author.Rules.{rules}
 use Prim.Native.Nat.{◌-◌}
-use mathlib.Core.Path.{sym, ◌∙◌}
-use native.Mathlib.Omega.{arith}
-use borrow.Author.Tests.{not-true, not-false}
 use Rattle.clock.specs.Vector.{entries}
-use Rattle.sync.proofs.DeltaLoops.{Chunking, chunking_start, chunking_skip, chunking_put, chunking_grow, chunking_none, chunking_last}
-use Rattle.std.proofs.Common.{ap, not}
+use Rattle.sync.proofs.DeltaLoops.{Chunking}
 use Rattle.sync.proofs.chunk.write_chunks.Given as goal
 
 abbrev pub invariant-loop-i : goal.invariant-loop-i

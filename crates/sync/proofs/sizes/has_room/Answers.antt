@@ -1,6 +1,5 @@
 use native.Mathlib.Omega.{arith}
 use Rattle.sync.proofs.SizeLoops.{row_room, chunk_room}
-use borrow.Author.Rules.{rules}
 use Rattle.sync.proofs.sizes.has_room.Goals as goal
 
 pub returns-then-n-room : goal.returns-then-n-room

@@ -1,5 +1,4 @@
 use Rattle.sync.proofs.NumberList.{two_puts}
-use borrow.Author.Rules.{rules}
 use Rattle.sync.proofs.sizes.put_figures.Goals as goal
 
 pub returns : goal.returns

@@ -1,11 +1,6 @@
-use borrow.Author.Rules.{rules}
 use Prim.Native.Nat.{◌-◌}
-use mathlib.Core.Path.{sym, ◌∙◌}
-use native.Mathlib.Omega.{arith}
-use borrow.Author.Tests.{not-true, not-false}
 use Rattle.clock.specs.Vector.{entries}
-use Rattle.sync.proofs.SizeLoops.{Sizing, sizing_start, sizing_skip, sizing_room, sizing_put, sizing_grow, sizing_none, last_room, sizing_last}
-use Rattle.std.proofs.Common.{ap, not}
+use Rattle.sync.proofs.SizeLoops.{Sizing}
 use Rattle.sync.proofs.sizes.write_sizes.Given as goal
 
 abbrev pub invariant-loop-i : goal.invariant-loop-i

@@ -1,7 +1,6 @@
 use borrow.Author.Rules.{rules}
-use Prim.Native.Nat.{◌-◌, ◌≤◌}
 use native.Mathlib.Omega.{arith}
-use Rattle.working.proofs.ContentEquality.{LeftSame, bytes_start, bytes_long, bytes_not, bytes_turn, bytes_end}
+use Rattle.working.proofs.ContentEquality.{bytes_start, bytes_long, bytes_not, bytes_turn, bytes_end}
 use Rattle.working.proofs.contents.same_bytes.Goals as goal
 
 pub returns-then-p-q : goal.returns-then-p-q

@@ -1,6 +1,4 @@
-use Prim.Native.Nat.{◌-◌}
 use Rattle.working.proofs.ContentEquality.{not_stamp, not_deps, not_payload, as_signatures}
-use borrow.Author.Rules.{rules}
 use Rattle.std.proofs.Common.{ap, not}
 use Rattle.working.proofs.contents.same_content.Goals as goal
 

@@ -1,9 +1,6 @@
 use borrow.Author.Rules.{rules}
-use Prim.Native.Nat.{ℕ, ◌-◌, ◌≤◌}
-use mathlib.Core.Path.{◌≡◌, sym, ◌∙◌}
 use native.Mathlib.Omega.{arith}
-use lib.ListN.{length, length-map}
-use Rattle.working.proofs.ContentEquality.{LeftDeps, deps_start, deps_count, deps_author, deps_number, deps_turn, deps_end}
+use Rattle.working.proofs.ContentEquality.{deps_start, deps_count, deps_author, deps_number, deps_turn, deps_end}
 use Rattle.working.proofs.contents.same_deps.Goals as goal
 
 pub returns-then-n-q : goal.returns-then-n-q

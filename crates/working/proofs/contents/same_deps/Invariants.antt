@@ -1,9 +1,5 @@
-use borrow.Author.Rules.{rules}
-use Prim.Native.Nat.{ℕ, ◌-◌, ◌≤◌}
-use mathlib.Core.Path.{◌≡◌, sym, ◌∙◌}
-use native.Mathlib.Omega.{arith}
-use lib.ListN.{length, length-map}
-use Rattle.working.proofs.ContentEquality.{LeftDeps, deps_start, deps_count, deps_author, deps_number, deps_turn, deps_end}
+use Prim.Native.Nat.{◌-◌, ◌≤◌}
+use Rattle.working.proofs.ContentEquality.{LeftDeps}
 use Rattle.working.proofs.contents.same_deps.Given as goal
 
 abbrev pub invariant-loop-i : goal.invariant-loop-i

@@ -1,7 +1,5 @@
-use Prim.Native.Nat.{◌-◌}
 use mathlib.Core.Path.{refl}
 use Rattle.working.proofs.ContentEquality.{same_to}
-use borrow.Author.Rules.{rules}
 use Rattle.working.proofs.contents.same_part.Goals as goal
 
 pub returns : goal.returns

@@ -1,9 +1,8 @@
-use Prim.Native.Nat.{◌*◌, ◌-◌}
+use Prim.Native.Nat.{◌*◌}
 use mathlib.Core.Path.{sym, ◌∙◌}
 use Rattle.row.proofs.Operations.{read_op_row}
 use Rattle.working.proofs.ReferenceRows.{ok_held, ok_batch, row_held, row_batch}
 use Rattle.working.proofs.Entrance.{read_row_at, read_fits, same_rows}
-use borrow.Author.Rules.{rules}
 use Rattle.working.proofs.contents.same_ref.Goals as goal
 
 pub read_slot-h-requires : goal.read_slot-h-requires

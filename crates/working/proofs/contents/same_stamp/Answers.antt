@@ -1,4 +1,3 @@
-use Prim.Native.Nat.{◌-◌}
 use Rattle.working.proofs.ContentEquality.{not_wall, not_counter, as_actors}
 use Rattle.working.proofs.contents.same_stamp.Goals as goal
 

@@ -1,6 +1,5 @@
 use mathlib.Core.Path.{refl, sym, ◌∙◌}
 use native.Mathlib.Omega.{arith}
-use borrow.Author.Rules.{rules}
 use Rattle.working.proofs.ScratchColumns.{refs_of, ref_there}
 use Rattle.working.proofs.ReferenceRows.{read_of}
 use Rattle.working.proofs.FirstReference.{found_below}

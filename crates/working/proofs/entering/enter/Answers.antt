@@ -1,6 +1,5 @@
 use native.Mathlib.Omega.{arith}
 use Rattle.working.proofs.Entrance.{puts}
-use borrow.Author.Rules.{rules}
 use Rattle.working.proofs.entering.enter.Goals as goal
 
 pub returns : goal.returns

@@ -1,5 +1,4 @@
 use Rattle.working.proofs.ContentEquality.{as_before}
-use borrow.Author.Rules.{rules}
 use Rattle.working.proofs.entering.goes_before.Goals as goal
 
 pub returns : goal.returns

@@ -1,6 +1,4 @@
-use Prim.Native.Nat.{◌-◌}
 use Rattle.working.proofs.ContentEquality.{stamp_below, stamp_above, author_below, author_above, as_seqs}
-use borrow.Author.Rules.{rules}
 use Rattle.working.proofs.entering.key_less.Goals as goal
 
 pub returns-then-less : goal.returns-then-less

@@ -1,12 +1,8 @@
 use borrow.Author.Rules.{rules}
-use Prim.Native.Nat.{ℕ, ◌-◌, ◌≤◌}
 use mathlib.Core.Path.{refl}
-use mathlib.Core.List.{List}
 use native.Mathlib.Omega.{arith}
-use Rattle.working.specs.Inside.Keys.{Keyed}
-use Rattle.working.specs.Inside.Looks.{before_ref}
 use Rattle.working.proofs.Entrance.{found_place, none_place}
-use Rattle.working.proofs.FirstReference.{LeftFirst, first_start, first_here, first_turn, first_end}
+use Rattle.working.proofs.FirstReference.{first_start, first_here, first_turn, first_end}
 use Rattle.working.proofs.entering.place.Goals as goal
 
 pub loop-i-init : goal.loop-i-init

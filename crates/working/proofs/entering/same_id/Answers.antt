@@ -1,6 +1,5 @@
 use Rattle.working.specs.Inside.Keys.{key_at}
 use Rattle.working.proofs.ContentEquality.{id_author, id_seq}
-use borrow.Author.Rules.{rules}
 use Rattle.working.proofs.entering.same_id.Goals as goal
 
 pub returns-then-actor-keys : goal.returns-then-actor-keys

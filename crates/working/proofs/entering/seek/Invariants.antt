@@ -1,11 +1,8 @@
-use borrow.Author.Rules.{rules}
 use Prim.Native.Nat.{ℕ, ◌-◌, ◌≤◌}
-use mathlib.Core.Path.{refl}
 use mathlib.Core.List.{List}
-use native.Mathlib.Omega.{arith}
 use Rattle.working.specs.Inside.Keys.{Keyed}
 use Rattle.working.specs.Inside.Looks.{id_ref}
-use Rattle.working.proofs.FirstReference.{LeftFirst, first_start, first_here, first_turn, first_end}
+use Rattle.working.proofs.FirstReference.{LeftFirst}
 use Rattle.working.proofs.entering.seek.Given as goal
 
 abbrev pub invariant-loop-i : goal.invariant-loop-i

@@ -1,10 +1,7 @@
 use borrow.Author.Rules.{rules}
-use Prim.Native.Nat.{◌-◌, ◌≤◌}
-use mathlib.Core.Path.{◌≡◌}
 use native.Mathlib.Omega.{arith}
-use lib.ListN.{length}
 use Rattle.working.proofs.ScratchColumns.{refs_of, ref_there}
-use Rattle.working.proofs.KeyTable.{KeyedTo, keyed_none, keyed_turn, keyed_end}
+use Rattle.working.proofs.KeyTable.{keyed_none, keyed_turn, keyed_end}
 use Rattle.working.proofs.keys.load_keys.Goals as goal
 
 pub loop-i-init : goal.loop-i-init

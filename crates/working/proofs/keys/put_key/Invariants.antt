@@ -1,9 +1,7 @@
-use borrow.Author.Rules.{rules}
 use Prim.Native.Nat.{◌≤◌}
 use mathlib.Core.Path.{◌≡◌}
-use native.Mathlib.Omega.{arith}
 use lib.ListN.{length}
-use Rattle.working.proofs.KeyTable.{KeyGap, key_gap, key_up, key_in}
+use Rattle.working.proofs.KeyTable.{KeyGap}
 use Rattle.working.proofs.keys.put_key.Given as goal
 
 abbrev pub invariant-loop-j : goal.invariant-loop-j

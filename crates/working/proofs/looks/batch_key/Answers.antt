@@ -1,7 +1,5 @@
-use Prim.Native.Nat.{◌-◌}
 use mathlib.Core.Path.{refl, sym, ◌∙◌, ap}
 use Rattle.working.proofs.ReferenceRows.{no_head_lem, head_key}
-use borrow.Author.Rules.{rules}
 use Rattle.row.specs.Values.{head_of}
 use Rattle.working.proofs.looks.batch_key.Goals as goal
 

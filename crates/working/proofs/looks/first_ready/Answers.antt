@@ -1,10 +1,7 @@
 use borrow.Author.Rules.{rules}
-use Prim.Native.Nat.{◌-◌, ◌≤◌}
 use native.Mathlib.Omega.{arith}
-use Rattle.working.specs.Inside.DrainClock.{ticks}
-use Rattle.working.specs.Inside.Looks.{ready_ref}
 use Rattle.working.proofs.ScratchColumns.{refs_of, ref_there}
-use Rattle.working.proofs.FirstReference.{LeftFirst, first_start, first_here, first_turn, first_end}
+use Rattle.working.proofs.FirstReference.{first_start, first_here, first_turn, first_end}
 use Rattle.working.proofs.looks.first_ready.Goals as goal
 
 pub loop-i-init : goal.loop-i-init

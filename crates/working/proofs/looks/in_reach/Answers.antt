@@ -1,9 +1,8 @@
-use Prim.Native.Nat.{suc, ◌-◌}
+use Prim.Native.Nat.{suc}
 use mathlib.Core.Path.{sym}
 use native.Mathlib.Omega.{arith}
 use borrow.Author.Tests.{le-leb}
 use Rattle.working.proofs.ReferenceRows.{reach}
-use borrow.Author.Rules.{rules}
 use Rattle.working.proofs.looks.in_reach.Goals as goal
 
 pub returns-then-seq-eq0 : goal.returns-then-seq-eq0

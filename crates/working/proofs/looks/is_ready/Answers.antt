@@ -1,4 +1,3 @@
-use Prim.Native.Nat.{◌-◌}
 use Rattle.working.proofs.ReferenceRows.{ok_held, ok_batch, ready_held, ready_batch}
 use borrow.Author.Rules.{rules}
 use Rattle.working.proofs.looks.is_ready.Goals as goal

@@ -1,6 +1,4 @@
-use Prim.Native.Nat.{◌-◌}
 use Rattle.working.proofs.ReferenceRows.{ok_held, ok_batch, key_held, key_batch}
-use borrow.Author.Rules.{rules}
 use Rattle.working.proofs.looks.load_key.Goals as goal
 
 pub slot_key-requires : goal.slot_key-requires

@@ -1,11 +1,7 @@
 use borrow.Author.Rules.{rules}
-use Prim.Native.Nat.{ℕ, ◌-◌, ◌≤◌}
-use mathlib.Core.Path.{◌≡◌, refl, sym, ◌∙◌}
+use mathlib.Core.Path.{refl}
 use native.Mathlib.Omega.{arith}
-use lib.ListN.{length, length-map}
-use Rattle.row.specs.Values.{deps_of}
-use Rattle.working.specs.Inside.DrainClock.{ticks}
-use Rattle.working.proofs.ReferenceRows.{LeftMet, met_turn, met_not, met_end, value_length, value_next}
+use Rattle.working.proofs.ReferenceRows.{met_turn, met_not, met_end, value_length, value_next}
 use Rattle.working.proofs.looks.met_deps.Goals as goal
 
 pub loop-i-init : goal.loop-i-init

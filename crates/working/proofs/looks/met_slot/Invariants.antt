@@ -1,11 +1,7 @@
-use borrow.Author.Rules.{rules}
 use Prim.Native.Nat.{◌-◌, ◌≤◌}
-use mathlib.Core.Path.{refl}
-use native.Mathlib.Omega.{arith}
-use Rattle.row.proofs.Operations.{in_area}
 use Rattle.row.specs.Slots.{slot_at, decode_held}
 use Rattle.working.specs.Inside.DrainClock.{ticks}
-use Rattle.working.proofs.ReferenceRows.{LeftMet, met_turn, met_not, met_end, slot_few, slot_length, slot_next}
+use Rattle.working.proofs.ReferenceRows.{LeftMet}
 use Rattle.working.proofs.looks.met_slot.Given as goal
 
 abbrev pub invariant-loop-i : goal.invariant-loop-i

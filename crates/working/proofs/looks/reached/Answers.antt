@@ -1,7 +1,6 @@
 use lib.Dec.{leb}
-use Prim.Native.Nat.{ℕ, suc, ◌-◌}
+use Prim.Native.Nat.{ℕ, suc}
 use mathlib.Core.Path.{◌∙◌, ap}
-use borrow.Author.Rules.{rules}
 use Rattle.working.proofs.looks.reached.Goals as goal
 
 pub returns : goal.returns

@@ -1,7 +1,5 @@
-use Prim.Native.Nat.{◌-◌}
 use mathlib.Core.Path.{sym, ◌∙◌, ap}
 use Rattle.working.proofs.ReferenceRows.{no_head_lem, head_fields, deps_field, ready_not, ready_met}
-use borrow.Author.Rules.{rules}
 use Rattle.row.specs.Values.{head_of}
 use Rattle.std.proofs.Common.{not}
 use Rattle.working.proofs.looks.ready_batch.Goals as goal

@@ -1,8 +1,6 @@
 use borrow.Author.Rules.{rules}
-use Prim.Native.Nat.{◌-◌}
 use native.Mathlib.Omega.{arith}
-use Rattle.working.specs.Inside.DrainClock.{ticks}
-use Rattle.working.proofs.AdmissionLoop.{Enters, enters_start, enters_end, begun, begun_needs, enters_duplicate, enters_entered, enters_conflict, answered}
+use Rattle.working.proofs.AdmissionLoop.{enters_start, enters_end, begun, begun_needs, enters_duplicate, enters_entered, enters_conflict, answered}
 use Rattle.working.proofs.raw.admit_by.Goals as goal
 
 pub loop-i-init : goal.loop-i-init

@@ -1,6 +1,4 @@
-use Prim.Native.Nat.{◌-◌}
 use Rattle.working.proofs.DrainLoop.{drains_from}
-use borrow.Author.Rules.{rules}
 use Rattle.working.proofs.raw.drain.Goals as goal
 
 pub returns : goal.returns

@@ -1,8 +1,7 @@
 use borrow.Author.Rules.{rules}
-use Prim.Native.Nat.{◌-◌}
 use mathlib.Core.Path.{sym, ◌∙◌}
 use native.Mathlib.Omega.{arith}
-use Rattle.working.proofs.DrainLoop.{Going, going_start, going_working, going_end, turn, word_room, found_ref, take_needs, push_room, put_needs, going_drop, going_log}
+use Rattle.working.proofs.DrainLoop.{going_start, going_working, going_end, turn, word_room, found_ref, take_needs, push_room, put_needs, going_drop, going_log}
 use Rattle.working.proofs.raw.drain_by.Goals as goal
 
 pub loop-j-init : goal.loop-j-init

@@ -1,8 +1,4 @@
-use borrow.Author.Rules.{rules}
-use Prim.Native.Nat.{◌-◌}
-use mathlib.Core.Path.{sym, ◌∙◌}
-use native.Mathlib.Omega.{arith}
-use Rattle.working.proofs.DrainLoop.{Going, going_start, going_working, going_end, turn, word_room, found_ref, take_needs, push_room, put_needs, going_drop, going_log}
+use Rattle.working.proofs.DrainLoop.{Going}
 use Rattle.working.proofs.raw.drain_by.Given as goal
 
 abbrev pub invariant-loop-j : goal.invariant-loop-j

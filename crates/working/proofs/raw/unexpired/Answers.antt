@@ -1,10 +1,8 @@
 use borrow.Author.Rules.{rules}
-use Prim.Native.Nat.{◌*◌, ◌-◌}
-use mathlib.Core.Path.{◌≡◌}
+use Prim.Native.Nat.{◌*◌}
 use native.Mathlib.Omega.{arith}
-use lib.ListN.{length}
 use Rattle.row.proofs.Operations.{in_area}
-use Rattle.working.proofs.AdmissionLoop.{Lasting, lasting_start, lasting_end, lasting_past, lasting_kept}
+use Rattle.working.proofs.AdmissionLoop.{lasting_start, lasting_end, lasting_past, lasting_kept}
 use Rattle.working.proofs.raw.unexpired.Goals as goal
 
 pub loop-i-init : goal.loop-i-init

@@ -1,10 +1,7 @@
-use borrow.Author.Rules.{rules}
-use Prim.Native.Nat.{◌*◌, ◌-◌}
+use Prim.Native.Nat.{◌-◌}
 use mathlib.Core.Path.{◌≡◌}
-use native.Mathlib.Omega.{arith}
 use lib.ListN.{length}
-use Rattle.row.proofs.Operations.{in_area}
-use Rattle.working.proofs.AdmissionLoop.{Lasting, lasting_start, lasting_end, lasting_past, lasting_kept}
+use Rattle.working.proofs.AdmissionLoop.{Lasting}
 use Rattle.working.proofs.raw.unexpired.Given as goal
 
 abbrev pub invariant-loop-i : goal.invariant-loop-i

@@ -1,7 +1,5 @@
-use Prim.Native.Nat.{◌-◌}
 use mathlib.Core.Path.{refl}
 use Rattle.working.proofs.ScratchColumns.{pushed}
-use borrow.Author.Rules.{rules}
 use Rattle.working.proofs.scratch.push_logged.Goals as goal
 
 pub returns : goal.returns

@@ -1,9 +1,6 @@
 use borrow.Author.Rules.{rules}
-use Prim.Native.Nat.{◌-◌, ◌≤◌}
-use mathlib.Core.Path.{◌≡◌}
 use native.Mathlib.Omega.{arith}
-use lib.ListN.{length}
-use Rattle.working.proofs.ScratchColumns.{Gap, gap_start, gap_turn, put_in}
+use Rattle.working.proofs.ScratchColumns.{gap_start, gap_turn, put_in}
 use Rattle.working.proofs.scratch.put_entry.Goals as goal
 
 pub loop-j-init : goal.loop-j-init

@@ -1,9 +1,7 @@
-use borrow.Author.Rules.{rules}
-use Prim.Native.Nat.{◌-◌, ◌≤◌}
+use Prim.Native.Nat.{◌≤◌}
 use mathlib.Core.Path.{◌≡◌}
-use native.Mathlib.Omega.{arith}
 use lib.ListN.{length}
-use Rattle.working.proofs.ScratchColumns.{Gap, gap_start, gap_turn, put_in}
+use Rattle.working.proofs.ScratchColumns.{Gap}
 use Rattle.working.proofs.scratch.put_entry.Given as goal
 
 abbrev pub invariant-loop-j : goal.invariant-loop-j

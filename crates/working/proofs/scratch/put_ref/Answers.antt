@@ -1,4 +1,3 @@
-use Prim.Native.Nat.{◌-◌}
 use Rattle.working.proofs.ScratchWord.{written}
 use borrow.Author.Rules.{rules}
 use Rattle.working.proofs.scratch.put_ref.Goals as goal

@@ -1,9 +1,7 @@
 use borrow.Author.Rules.{rules}
-use Prim.Native.Nat.{◌-◌, ◌≤◌}
-use mathlib.Core.Path.{◌≡◌, refl}
+use mathlib.Core.Path.{refl}
 use native.Mathlib.Omega.{arith}
-use lib.ListN.{length}
-use Rattle.working.proofs.ScratchColumns.{Moving, Same8, move_start, move_turn, same_turn, taken_out}
+use Rattle.working.proofs.ScratchColumns.{move_start, move_turn, same_turn, taken_out}
 use Rattle.working.proofs.scratch.take_entry.Goals as goal
 
 pub loop-i-init : goal.loop-i-init

@@ -1,9 +1,7 @@
-use borrow.Author.Rules.{rules}
 use Prim.Native.Nat.{◌-◌, ◌≤◌}
-use mathlib.Core.Path.{◌≡◌, refl}
-use native.Mathlib.Omega.{arith}
+use mathlib.Core.Path.{◌≡◌}
 use lib.ListN.{length}
-use Rattle.working.proofs.ScratchColumns.{Moving, Same8, move_start, move_turn, same_turn, taken_out}
+use Rattle.working.proofs.ScratchColumns.{Moving, Same8}
 use Rattle.working.proofs.scratch.take_entry.Given as goal
 
 abbrev pub invariant-loop-i : goal.invariant-loop-i

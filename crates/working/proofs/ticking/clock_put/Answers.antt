@@ -1,4 +1,3 @@
-use Prim.Native.Nat.{◌-◌}
 use mathlib.Core.Path.{sym, ◌∙◌}
 use Rattle.working.proofs.DrainClock.{ascends, put_here, put_gap}
 use borrow.Author.Rules.{rules}

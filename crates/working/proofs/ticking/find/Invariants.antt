@@ -1,8 +1,5 @@
-use borrow.Author.Rules.{rules}
 use Prim.Native.Nat.{ℕ, ◌-◌, ◌≤◌, ◌<◌}
-use native.Mathlib.Omega.{arith}
 use lib.ListN.{get_or}
-use Rattle.working.proofs.DrainClock.{parts_low, parts_high, parts_met}
 use Rattle.working.proofs.ticking.find.Given as goal
 
 abbrev pub invariant-loop-low : goal.invariant-loop-low

@@ -1,11 +1,7 @@
 use borrow.Author.Rules.{rules}
-use Prim.Native.Nat.{◌-◌, ◌≤◌}
-use mathlib.Core.Path.{◌≡◌}
 use native.Mathlib.Omega.{arith}
-use lib.ListN.{length}
 use Rattle.words.proofs.Moves.{up_none}
 use Rattle.clock.proofs.AuthorSearch.{in_turn, in_last}
-use Rattle.words.specs.Inside.Moves.{moved_up}
 use Rattle.working.proofs.ticking.put_in.Goals as goal
 
 pub loop-j-init : goal.loop-j-init

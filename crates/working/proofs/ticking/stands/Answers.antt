@@ -1,6 +1,4 @@
-use Prim.Native.Nat.{◌-◌}
 use Rattle.working.proofs.DrainClock.{stands_past, stands_here}
-use borrow.Author.Rules.{rules}
 use Rattle.working.proofs.ticking.stands.Goals as goal
 
 pub returns-then-i-n : goal.returns-then-i-n

@@ -1,11 +1,7 @@
-use borrow.Author.Rules.{rules}
 use Prim.Native.Nat.{ℕ, ◌+◌, ◌*◌, ◌-◌, ◌≤◌, ◌<◌}
-use mathlib.Core.Path.{◌≡◌, ◌∙◌, ap}
-use native.Mathlib.Omega.{arith}
-use lib.ListN.{length, get_or, length-set}
+use mathlib.Core.Path.{◌≡◌}
+use lib.ListN.{length, get_or}
 use Rattle.words.specs.Be.{get64}
-use Rattle.words.proofs.Puts.{fill_turn}
-use Rattle.working.proofs.DrainClock.{head_few, start_is, start_clocked}
 use Rattle.working.proofs.ticking.start_clock.Given as goal
 
 abbrev pub invariant-loop-i : goal.invariant-loop-i
