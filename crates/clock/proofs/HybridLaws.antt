@@ -57,9 +57,9 @@ module _ (j : HybridClock) (pt wall counter : ℕ) (w : wall ≡ greater j.last_
   unfolding now_call issue_at
   now_moved k = rw (sent, lt-ltb counter 4294967296 k)
 
-  pub now_full : 4294967296 ≤ counter → now_call j pt ≡ record { answer = refused CounterOverflow; left = j }
+  pub now_over : 4294967296 ≤ counter → now_call j pt ≡ record { answer = refused CounterOverflow; left = j }
   unfolding now_call issue_at
-  now_full k = rw (sent, le-ltb counter 4294967296 k)
+  now_over k = rw (sent, le-ltb counter 4294967296 k)
 
 -- the counter after a remote stamp
 module _ (j m : Hlc) (l : ℕ) where

@@ -4,6 +4,7 @@ use Rattle.words.specs.Names.{Time}
 use Rattle.words.specs.Choice.{pick}
 use Rattle.error.specs.declared.Refusal.TheVariants.{CounterOverflow}
 use Rattle.error.specs.Answer.{Ends, ends, refused}
+use Rattle.clock.specs.Hlc.{Hlc, send_l, send_c, send_event}
 use Rattle.clock.specs.Hybrid.{stamped_at, now_call}
 use Rattle.clock.specs.declared.stamp.Timestamp.{Timestamp}
 use Rattle.clock.specs.declared.hybrid.HybridClock.{HybridClock}
@@ -15,6 +16,10 @@ now_as_rust j pt =
     pick (ltb j.last_wall pt) (stamped_at j (record { l = pt; c = 0 }))
     (pick (ltb j.last_counter (2 ^ 32 - 1)) (stamped_at j (record { l = j.last_wall; c = j.last_counter + 1 }))
     (ends (refused CounterOverflow) j))
+
+-- the event is made of the figure's two lines. Proved in proofs/SendRule.antt.
+abbrev pub SendsByLines : Type 0
+SendsByLines = (j : Hlc) (pt : Time) → send_event j pt ≡ record { l = send_l j pt; c = send_c j (send_l j pt) }
 
 -- whatever the clock and the physical time. Proved in proofs/SendRule.antt.
 abbrev pub SendsAsRust : Type 0

@@ -7,11 +7,11 @@ slice_bounds-copy-end-then-count-lt8 c = omega (arith)
 
 pub returns-then-count-lt8 : goal.returns-then-count-lt8
 returns-then-count-lt8 c =
-    pushed c.args.p (omega arith) c.requires _ _ c.if-count-lt8.true c.copy.ensures
+    pushed c.args.p (omega arith) c.requires _ _ (omega arith) c.copy.ensures
 
 pub slice_bounds-copy-end-3 : goal.slice_bounds-copy-end-3
 slice_bounds-copy-end-3 c = omega (arith)
 
 pub returns : goal.returns
 returns c =
-    pushed_out c.args.p (omega arith) c.requires _ _ c.if-count-lt8.false c.copy-2.ensures
+    pushed_out c.args.p (omega arith) c.requires _ _ (omega arith) c.copy-2.ensures

@@ -1,12 +1,12 @@
 use mathlib.Core.Path.{sym, ◌∙◌}
 use native.Mathlib.Omega.{arith}
-use Rattle.clock.proofs.HybridLaws.{now_moved, now_full}
+use Rattle.clock.proofs.HybridLaws.{now_moved, now_over}
 use Rattle.clock.proofs.hybrid.HybridClock.now.Goals as goal
 
 pub returns-then-counter-gt4294967295 : goal.returns-then-counter-gt4294967295
 returns-then-counter-gt4294967295 c =
     let args = c.args in
-    sym (now_full args.self args.physical _ _ c.greater-wall.ensures c.send_counter-counter.ensures (omega arith))
+    sym (now_over args.self args.physical _ _ c.greater-wall.ensures c.send_counter-counter.ensures (omega arith))
 
 pub returns : goal.returns
 returns c =
