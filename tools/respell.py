@@ -1,10 +1,11 @@
 #!/usr/bin/env python3
 """Brings the names of this repository to the spelling of today's Rattle: words in snake case, modules in camel case.
 
-usage: tools/respell.py --table     writes tools/respell.tsv: each name that changes, and what it becomes
-       tools/respell.py             applies the table once, over definitions, proofs, clauses, must-fail edits and pages
+usage: tools/respell.py             applies tools/respell.tsv once, over definitions, proofs, clauses and must-fail edits
+       tools/respell.py --table     writes that table anew, over a tree as port.py leaves it: each name that changes, and what it becomes
 
-The table was made over the tree as port.py left it. A lemma that would have its function's name gets `_lem`. Functions of
+The table here was made over the tree as port.py left it, and names that were found later were added by hand: docs/PORT.md says
+which. A lemma that would have its function's name gets `_lem`. Functions of
 src/, exported names, strings and quotations keep their spelling: only names that specs/ and proofs/ declare are in the table.
 """
 

@@ -154,11 +154,11 @@ module _ (a : Areas) (l : Limits) (time : ℕ) (batch t : List ℕ) (waiting log
     unfolding write_store
     held-written = c.held_is ∙ rw (m.refers.waiting_are, store_is)
 
-    pub batch-leaves : (zeros : List ℕ) → zeros ≡ replicate (length t) 0 → (q : MergeReport) → q.applied ≡ r.applied → q.stale ≡ r.stale → q.rejected ≡ r.rejected
+    pub batch_leaves : (zeros : List ℕ) → zeros ≡ replicate (length t) 0 → (q : MergeReport) → q.applied ≡ r.applied → q.stale ≡ r.stale → q.rejected ≡ r.rejected
         → q.duplicates ≡ duplicates → q.held ≡ waiting → q.expired ≡ expired → q.dropped ≡ dropped
         → ends (done (report_of q)) (lent (areas log held head) zeros output') ≡ batch_call a (call_of l time batch scratch output)
     unfolding batch_call batch_ends write_store
-    batch-leaves zeros z q e₁ e₂ e₃ e₄ e₅ e₆ e₇ =
+    batch_leaves zeros z q e₁ e₂ e₃ e₄ e₅ e₆ e₇ =
         let told : report_of q ≡ m.merged.report =
         (λ i. record {
           applied = (e₁ ∙ counts.applied) i;

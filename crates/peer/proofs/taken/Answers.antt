@@ -8,8 +8,8 @@ returns-then-i-sent c =
 
 pub returns-then-j-answered : goal.returns-then-j-answered
 returns-then-j-answered c =
-    took_again c.args.p c.args.nonce _ (absent c.args.p.outstanding (omega arith) c.requires.0 _ _ c.find_nonce-i.ensures c.if-i-sent.false) (there c.args.p.answered (omega arith) c.requires.1 _ _ c.find_nonce-j.ensures c.if-j-answered.true) c.done-then-j-answered.ensures
+    took_again c.args.p c.args.nonce _ (absent c.args.p.outstanding (omega arith) c.requires.0 _ _ c.find_nonce-i.ensures c.if-i-sent.false) (there c.args.p.answered (omega arith) c.requires.1 _ _ c.find_nonce-j.ensures (omega arith)) c.done-then-j-answered.ensures
 
 pub returns : goal.returns
 returns c =
-    took_none c.args.p c.args.nonce _ (absent c.args.p.outstanding (omega arith) c.requires.0 _ _ c.find_nonce-i.ensures c.if-i-sent.false) (absent c.args.p.answered (omega arith) c.requires.1 _ _ c.find_nonce-j.ensures c.if-j-answered.false) c.refuse.ensures
+    took_none c.args.p c.args.nonce _ (absent c.args.p.outstanding (omega arith) c.requires.0 _ _ c.find_nonce-i.ensures c.if-i-sent.false) (absent c.args.p.answered (omega arith) c.requires.1 _ _ c.find_nonce-j.ensures (omega arith)) c.refuse.ensures

@@ -15,14 +15,14 @@ bounds-d-i-then-d-i c = omega (arith)
 
 pub returns-then-seq-d : goal.returns-then-seq-d
 returns-then-seq-d c =
-    own_found _ _ _ c.loop-i.i _ _ (value_next c.args.d (omega arith) (omega arith) c.requires c.loop-i.i c.loop-i-test.true) c.if-d-i.true c.if-seq-d.true c.loop-i.invariant.1
+    own_found _ _ _ c.loop-i.i _ _ (value_next c.args.d (omega arith) (omega arith) c.requires c.loop-i.i c.loop-i-test.true) c.if-d-i.true (omega arith) c.loop-i.invariant.1
 
 pub loop-i-preserved : goal.loop-i-preserved
 loop-i-preserved c =
     let next = value_next c.args.d (omega arith) (omega arith) c.requires c.loop-i.i c.loop-i-test.true in (
       omega arith,
       elim c.if-d-i.branch [
-        | then-d-i+else-seq-d w ↦ own_below _ _ _ c.loop-i.i _ _ next w.if-d-i.true w.if-seq-d.false c.loop-i.invariant.1
+        | then-d-i+else-seq-d w ↦ own_below _ _ _ c.loop-i.i _ _ next w.if-d-i.true (omega arith) c.loop-i.invariant.1
         | else-d-i w ↦ own_other _ _ _ c.loop-i.i _ _ next w.if-d-i.false c.loop-i.invariant.1
       ],
     )

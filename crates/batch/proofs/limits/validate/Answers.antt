@@ -29,14 +29,14 @@ returns-then-own_future c =
 pub returns-then-stamp-saturating_add : goal.returns-then-stamp-saturating_add
 unfolding limits_of
 returns-then-stamp-saturating_add c =
-    ahead_of_time _ _ _ _ c.if-seq-eq0.false c.if-stamp-actor.false c.if-stamp.false c.if-op-limits.false (value_length _ (omega arith) (omega arith) c.requires) c.if-deps-limits.false c.own_future.ensures c.if-own_future.false c.saturating_add.ensures c.if-stamp-saturating_add.true
+    ahead_of_time _ _ _ _ c.if-seq-eq0.false c.if-stamp-actor.false c.if-stamp.false c.if-op-limits.false (value_length _ (omega arith) (omega arith) c.requires) c.if-deps-limits.false c.own_future.ensures c.if-own_future.false c.saturating_add.ensures (omega arith)
 
 pub returns-then-verdict-ne1 : goal.returns-then-verdict-ne1
 unfolding limits_of
 returns-then-verdict-ne1 c =
-    bad_signature _ _ _ _ c.if-seq-eq0.false c.if-stamp-actor.false c.if-stamp.false c.if-op-limits.false (value_length _ (omega arith) (omega arith) c.requires) c.if-deps-limits.false c.own_future.ensures c.if-own_future.false c.saturating_add.ensures c.if-stamp-saturating_add.false c.if-verdict-ne1.true
+    bad_signature _ _ _ _ c.if-seq-eq0.false c.if-stamp-actor.false c.if-stamp.false c.if-op-limits.false (value_length _ (omega arith) (omega arith) c.requires) c.if-deps-limits.false c.own_future.ensures c.if-own_future.false c.saturating_add.ensures (omega arith) c.if-verdict-ne1.true
 
 pub returns : goal.returns
 unfolding limits_of
 returns c =
-    valid_row _ _ _ _ c.if-seq-eq0.false c.if-stamp-actor.false c.if-stamp.false c.if-op-limits.false (value_length _ (omega arith) (omega arith) c.requires) c.if-deps-limits.false c.own_future.ensures c.if-own_future.false c.saturating_add.ensures c.if-stamp-saturating_add.false c.if-verdict-ne1.false
+    valid_row _ _ _ _ c.if-seq-eq0.false c.if-stamp-actor.false c.if-stamp.false c.if-op-limits.false (value_length _ (omega arith) (omega arith) c.requires) c.if-deps-limits.false c.own_future.ensures c.if-own_future.false c.saturating_add.ensures (omega arith) c.if-verdict-ne1.false

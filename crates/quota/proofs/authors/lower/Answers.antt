@@ -1,3 +1,4 @@
+use native.Mathlib.Omega.{arith}
 use Rattle.merging.specs.Merging.{lower}
 use Rattle.quota.proofs.AuthorCounts.{lower_found, lower_new}
 use Rattle.quota.proofs.authors.lower.Goals as goal
@@ -7,7 +8,7 @@ unfolding lower
 returns-in-Nobody c = rw c.in-Nobody.is
 
 pub returns-then-b-a : goal.returns-then-b-a
-returns-then-b-a c = rw c.in-Author.is (lower_found c.args.a _ c.if-b-a.true)
+returns-then-b-a c = rw c.in-Author.is (lower_found c.args.a _ (omega arith))
 
 pub returns-else-b-a : goal.returns-else-b-a
-returns-else-b-a c = rw c.in-Author.is (lower_new c.args.a _ c.if-b-a.false)
+returns-else-b-a c = rw c.in-Author.is (lower_new c.args.a _ (omega arith))

@@ -8,7 +8,7 @@ use Rattle.working.proofs.entering.admit_one.Goals as goal
 
 pub returns-then-seq-have : goal.returns-then-seq-have
 returns-then-seq-have c =
-    admit_old _ _ _ _ _ _ _ _ _ _ (read_of _ c.requires.1).2 _ c.batch_key-key.ensures _ c.clock_get-have.ensures c.if-seq-have.true refl c.requires.4
+    admit_old _ _ _ _ _ _ _ _ _ _ (read_of _ c.requires.1).2 _ c.batch_key-key.ensures _ c.clock_get-have.ensures (omega arith) refl c.requires.4
 
 pub overflow_add-at : goal.overflow_add-at
 overflow_add-at c =
@@ -20,7 +20,7 @@ enter-requires c =
 
 pub returns-in_default : goal.returns-in_default
 returns-in_default c =
-    admit_new _ _ _ _ _ _ _ _ _ _ (read_of _ c.requires.1).2 _ c.batch_key-key.ensures _ c.clock_get-have.ensures c.if-seq-have.false (sym c.in_default.is ∙ c.seek.ensures _ _ _ c.requires.4) (c.enter.ensures _ _ (record { refs = c.requires.0.refs; keyed = c.requires.4; ok = ref_read _ _ _ c.requires.1; own = key_ref _ _ _ _ c.batch_key-key.ensures }))
+    admit_new _ _ _ _ _ _ _ _ _ _ (read_of _ c.requires.1).2 _ c.batch_key-key.ensures _ c.clock_get-have.ensures (omega arith) (sym c.in_default.is ∙ c.seek.ensures _ _ _ c.requires.4) (c.enter.ensures _ _ (record { refs = c.requires.0.refs; keyed = c.requires.4; ok = ref_read _ _ _ c.requires.1; own = key_ref _ _ _ _ c.batch_key-key.ensures }))
 
 pub overflow_mul-j : goal.overflow_mul-j
 overflow_mul-j c =
@@ -36,8 +36,8 @@ same_ref-requires c =
 
 pub returns-then-same_ref : goal.returns-then-same_ref
 returns-then-same_ref c =
-    admit_same _ _ _ _ _ _ _ _ _ _ (read_of _ c.requires.1).2 _ c.batch_key-key.ensures _ c.clock_get-have.ensures c.if-seq-have.false _ c.read_row-row.ensures _ _ (sym c.in-At.is ∙ c.seek.ensures _ _ _ c.requires.4) c.get_word-k.ensures _ c.same_ref.ensures c.if-same_ref.true refl c.requires.4
+    admit_same _ _ _ _ _ _ _ _ _ _ (read_of _ c.requires.1).2 _ c.batch_key-key.ensures _ c.clock_get-have.ensures (omega arith) _ c.read_row-row.ensures _ _ (sym c.in-At.is ∙ c.seek.ensures _ _ _ c.requires.4) c.get_word-k.ensures _ c.same_ref.ensures c.if-same_ref.true refl c.requires.4
 
 pub returns : goal.returns
 returns c =
-    admit_other _ _ _ _ _ _ _ _ _ _ (read_of _ c.requires.1).2 _ c.batch_key-key.ensures _ c.clock_get-have.ensures c.if-seq-have.false _ c.read_row-row.ensures _ _ (sym c.in-At.is ∙ c.seek.ensures _ _ _ c.requires.4) c.get_word-k.ensures _ c.same_ref.ensures c.if-same_ref.false
+    admit_other _ _ _ _ _ _ _ _ _ _ (read_of _ c.requires.1).2 _ c.batch_key-key.ensures _ c.clock_get-have.ensures (omega arith) _ c.read_row-row.ensures _ _ (sym c.in-At.is ∙ c.seek.ensures _ _ _ c.requires.4) c.get_word-k.ensures _ c.same_ref.ensures c.if-same_ref.false

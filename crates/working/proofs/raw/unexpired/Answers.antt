@@ -18,7 +18,7 @@ pub get_word-arrived-requires : goal.get_word-arrived-requires
 get_word-arrived-requires c = omega (arith, in_area c.args.held.now (704 * c.loop-i.i) (c.requires.1 c.loop-i.i (omega arith)))
 
 pub loop-i-preserved-then-arrived-cutoff : goal.loop-i-preserved-then-arrived-cutoff
-loop-i-preserved-then-arrived-cutoff c = (search rules, lasting_past c.loop-i.invariant.1 (search rules) _ c.get_word-arrived.ensures c.if-arrived-cutoff.true)
+loop-i-preserved-then-arrived-cutoff c = (search rules, lasting_past c.loop-i.invariant.1 (search rules) _ c.get_word-arrived.ensures (omega arith))
 
 pub overflow_mul-n : goal.overflow_mul-n
 overflow_mul-n c = omega arith
@@ -28,7 +28,7 @@ put_ref-requires c = omega arith
 
 pub loop-i-preserved : goal.loop-i-preserved
 loop-i-preserved c =
-    (search rules, lasting_kept c.loop-i.invariant.1 (search rules) _ c.get_word-arrived.ensures _ c.put_ref.ensures c.if-arrived-cutoff.false (omega arith) (c.requires.1 c.loop-i.i (omega arith)))
+    (search rules, lasting_kept c.loop-i.invariant.1 (search rules) _ c.get_word-arrived.ensures _ c.put_ref.ensures (omega arith) (omega arith) (c.requires.1 c.loop-i.i (omega arith)))
 
 pub returns : goal.returns
 returns c = lasting_end c.loop-i.invariant.1 (omega arith) (omega arith)
