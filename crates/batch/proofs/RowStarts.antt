@@ -10,16 +10,13 @@ use lib.Seq.{get_or-set_same, get_or-set_other}
 use borrow.Author.Tests.{eqb-true, eqb-false}
 use Rattle.words.proofs.Words.{test}
 use Rattle.error.specs.declared.Refusal.{Refusal}
-use Rattle.row.specs.Reading.{read_row}
+use Rattle.error.specs.Answer.{Answer, refused, got}
+use Rattle.row.specs.Reading.{number, read_row}
 use Rattle.row.specs.Calls.{ReadsRow}
 use Rattle.row.specs.declared.RowRead.{RowRead}
-use Rattle.row.specs.declared.Reading.{Reading}
-use Rattle.row.specs.declared.Reading.TheVariants.{Read, Refused}
-use Rattle.merging.specs.Batch.{Limits}
 use Rattle.merging.proofs.RowStarts.{start_next}
-use Rattle.batch.specs.Inside.BatchReads.{RowsBy, ReadsRows, RowsStart}
+use Rattle.batch.specs.Inside.BatchReads.{RowsStart, first_row}
 use Rattle.batch.specs.declared.BatchRead.{BatchRead}
-use Rattle.batch.proofs.BatchLoop.{row_is}
 use Rattle.merging.specs.Inside.RowStarts.{StartsAt, start_of, past_row}
 
 -- ---- where i rows start is noted, and the next starts at `at`
@@ -43,10 +40,10 @@ module _ {s : List ℕ} {first at i : ℕ} {starts : List ℕ} (g : Starting s f
             get_or-set_other starts i j at 0 n ∙ g.noted j (omega arith)
       ]
 
-  pub starting_turn : {r : RowRead} {next : ℕ} → i < length starts → ReadsRow s at r → r.reading ≡ Read next
+  pub starting_turn : {o : RowRead} {next : ℕ} → i < length starts → ReadsRow s at (got o next)
       → Starting s first next (i + 1) (set starts i at)
-  starting_turn h d e = record {
-    place = sym (start_next s first i ∙ ap (λ p. past_row (read_row s p)) (sym g.place) ∙ ap past_row (row_is d e));
+  starting_turn h d = record {
+    place = sym (start_next s first i ∙ ap (λ p. past_row (read_row s p)) (sym g.place) ∙ ap past_row (sym d.is));
     noted = one_more h;
   }
 
@@ -54,13 +51,8 @@ module _ {s : List ℕ} {first at i : ℕ} {starts : List ℕ} (g : Starting s f
   all_noted h j k = g.noted j (omega arith)
 
 -- ---- the answers
-pub none_start : {x : Reading} {k : Refusal} (s starts : List ℕ) (n : ℕ) → x ≡ Refused k → RowsStart x s starts n
-none_start s starts n e = rw e (omega arith)
+pub none_start : {x : Answer BatchRead} {k : Refusal} (s : List ℕ) (first : ℕ) (starts : List ℕ) → x ≡ refused k → RowsStart x s first starts
+none_start s first starts e = rw e tt
 
-module _ (s starts : List ℕ) (first n : ℕ) (l : Limits) (time : ℕ) where
-  starts_by : (r : BatchRead) (x : Reading) → RowsBy x s first n l time r → RowsStart x s starts n → RowsStart x s starts r.rows
-  starts_by r (Read from) (f, k, b) h = rw k h
-  starts_by r (Refused k) d h = omega arith
-
-  pub starts_by_rows : {r : BatchRead} → ReadsRows s first n l time r → RowsStart r.reading s starts n → RowsStart r.reading s starts r.rows
-  starts_by_rows {r} d h = starts_by r r.reading d.is h
+pub start_by_rows : (x : Answer BatchRead) {n first : ℕ} (s starts : List ℕ) → number s 0 ≡ got n first → RowsStart x s first starts → RowsStart x s (first_row s) starts
+start_by_rows x s starts e h = rw e h

@@ -1,12 +1,13 @@
--- The tests of one row, and the settings.
-use Prim.Native.Nat.{ℕ, zero, suc, ◌+◌, ◌≤◌, ◌<◌}
-use mathlib.Core.Path.{◌≡◌, refl, sym, ◌∙◌}
-use mathlib.Core.Bool.{Bool, true, false}
+-- The tests of one row.
+use Prim.Native.Nat.{ℕ, ◌≤◌, ◌<◌}
+use mathlib.Core.Path.{◌≡◌, refl, ap}
+use mathlib.Core.Bool.{Bool, true, false, ◌&&◌, ◌||◌}
 use mathlib.Core.List.{List, [], ◌∷◌}
 use native.Mathlib.Omega.{arith}
 use lib.Dec.{leb, eqb}
-use lib.ListN.{length, take, drop, get_or, length-take, length-drop, drop_of_length-le}
-use lib.Seq.{length-take-le, get_or-take}
+use Rattle.std.specs.Prelude.{◌==◌}
+use Rattle.std.specs.List.{list_any, zip}
+use lib.ListN.{length, take, drop, length-take, length-drop}
 use borrow.Author.Tests.{le-leb, lt-leb, eq-eqb, ne_eqb}
 use Rattle.error.specs.declared.Refusal.{Refusal}
 use Rattle.error.specs.declared.Refusal.TheVariants.{ZeroSequence, ForeignStamp, SpentCounter, PayloadTooLarge, TooManyCauses, OwnFuture, AheadOfTime, BadSignature}
@@ -16,72 +17,26 @@ use Rattle.row.specs.Values.{deps_of, row_of, OpFits}
 use Rattle.row.specs.declared.Deps.{Deps}
 use Rattle.row.specs.declared.StampedOperation.{StampedOperation}
 use Rattle.row.proofs.DepsPairs.{length_pairs}
-use Rattle.merging.specs.Batch.{Limits, limits_ok, own_future, validate}
+use Rattle.merging.specs.Batch.{Limits, own_future, validate}
 use Rattle.batch.specs.Inside.BatchReads.{Validates, GoesOn}
 use Rattle.words.specs.Choice.{saturating}
 
--- ---- the settings
-module _ (l : Limits) where
-  pub many_held : 64 < l.max_pending → false ≡ limits_ok l
-  unfolding limits_ok
-  many_held h = rw (lt-leb l.max_pending 64 h)
-
-  module _ (h : l.max_pending ≤ 64) where
-    pub many_deps : 16 < l.max_deps → false ≡ limits_ok l
-    unfolding limits_ok
-    many_deps k = rw (le-leb l.max_pending 64 h, lt-leb l.max_deps 16 k)
-
-    pub by_payload : l.max_deps ≤ 16 → leb l.max_payload 256 ≡ limits_ok l
-    unfolding limits_ok
-    by_payload k = rw (le-leb l.max_pending 64 h, le-leb l.max_deps 16 k)
-
--- ---- dependencies of a value, one by one
-pairs_next : (ks ns : List ℕ) (i : ℕ) → i < length ks → length ks ≡ length ns → drop i (pairs ks ns) ≡ (get_or ks i 0, get_or ns i 0) ∷ drop (i + 1) (pairs ks ns)
-unfolding pairs
-pairs_next [] ns i h q = absurd (omega arith)
-pairs_next (k ∷ ks) [] i h q = absurd (omega arith)
-pairs_next (k ∷ ks) (n ∷ ns) zero h q = refl
-pairs_next (k ∷ ks) (n ∷ ns) (suc i) h q =
-    let g : suc i + 1 ≡ suc (i + 1) = omega arith in
-    rw g (pairs_next ks ns i (omega arith) (omega arith))
-
+-- ---- dependencies of a value
 module _ (d : Deps) (la : length d.authors ≡ 16) (ln : length d.numbers ≡ 16) (few : d.count ≤ 16) where
   pub value_length : length (deps_of d) ≡ d.count
   unfolding deps_of
   value_length = length_pairs d.count d.authors d.numbers (omega arith) (omega arith)
 
-  pub value_next : (i : ℕ) → i < d.count → drop i (deps_of d) ≡ (get_or d.authors i 0, get_or d.numbers i 0) ∷ drop (i + 1) (deps_of d)
-  unfolding deps_of
-  value_next i h =
-      let p : length (take d.count d.authors) ≡ d.count = length-take-le d.count d.authors (omega arith) in
-      let q : length (take d.count d.numbers) ≡ d.count = length-take-le d.count d.numbers (omega arith) in
-      rw (get_or-take d.count d.authors i 0 h, get_or-take d.count d.numbers i 0 h) at
-      (pairs_next (take d.count d.authors) (take d.count d.numbers) i (omega arith) (p ∙ sym q))
-
--- the answer is what is left to find from i on
-abbrev pub LeftOwn : ℕ → ℕ → List (ℕ × ℕ) → ℕ → Type 0
-LeftOwn author seq ds i = own_future author seq ds ≡ own_future author seq (drop i ds)
-
-module _ (author seq : ℕ) (ds : List (ℕ × ℕ)) (i a n : ℕ) (e : drop i ds ≡ (a, n) ∷ drop (i + 1) ds) where
-  pub own_other : (a ≡ author → ⊥) → LeftOwn author seq ds i → LeftOwn author seq ds (i + 1)
-  unfolding own_future
-  own_other h inv = inv ∙ rw (e, ne_eqb a author h)
-
-  module _ (h : a ≡ author) where
-    pub own_below : n < seq → LeftOwn author seq ds i → LeftOwn author seq ds (i + 1)
-    unfolding own_future
-    own_below k inv = inv ∙ rw (e, eq-eqb a author h, lt-leb seq n k)
-
-    pub own_found : seq ≤ n → LeftOwn author seq ds i → true ≡ own_future author seq ds
-    unfolding own_future
-    own_found k inv = sym (inv ∙ rw (e, eq-eqb a author h, le-leb seq n k))
-
-pub own_none : (author seq : ℕ) (ds : List (ℕ × ℕ)) (i n : ℕ) → length ds ≡ n → n ≤ i → LeftOwn author seq ds i → false ≡ own_future author seq ds
-unfolding own_future
-own_none author seq ds i n e h inv = sym (inv ∙ rw (drop_of_length-le ds {i = i} (omega arith)))
+-- a test of the pairs is a test of both columns side by side
+pub own_by_columns : (author seq : ℕ) (ks ns : List ℕ)
+    → list_any (λ p. p.0 == author && leb seq p.1) (zip ks ns) ≡ own_future author seq (pairs ks ns)
+unfolding own_future pairs
+own_by_columns author seq [] ns = refl
+own_by_columns author seq (k ∷ ks) [] = refl
+own_by_columns author seq (k ∷ ks) (n ∷ ns) = ap (λ b. (k == author && leb seq n) || b) (own_by_columns author seq ks ns)
 
 -- ---- the tests 5 to 12: a law for each answer
-payload_length : (src : List ℕ) (op : StampedOperation) → OpFits src op → length (take op.payload_len (drop op.payload_at src)) ≡ op.payload_len
+payload_length : (src : List ℕ) (op : StampedOperation) → OpFits src op → length (take op.payload.len (drop op.payload.start src)) ≡ op.payload.len
 payload_length src op f = simp (length-take, length-drop) (omega (arith, f.payload_in))
 
 module _ (l : Limits) (time : ℕ) (op : StampedOperation) (verdict : ℕ) where
@@ -109,12 +64,12 @@ module _ (l : Limits) (time : ℕ) (op : StampedOperation) (verdict : ℕ) where
         p7 : eqb op.timestamp.logical_counter 4294967295 ≡ false
         p7 = ne_eqb _ _ h7
 
-        pub payload_too_large : l.max_payload < op.payload_len → Validates l time op verdict (refused (PayloadTooLarge op.actor op.seq))
+        pub payload_too_large : l.max_payload < op.payload.len → Validates l time op verdict (refused (PayloadTooLarge op.actor op.seq))
         unfolding validate row_of
-        payload_too_large h = record { is = λ src c f e. rw (p5, p6, p7, payload_length src op f, lt-leb op.payload_len l.max_payload h) }
+        payload_too_large h = record { is = λ src c f e. rw (p5, p6, p7, payload_length src op f, lt-leb op.payload.len l.max_payload h) }
 
-        module _ (h8 : op.payload_len ≤ l.max_payload) (ld : length (deps_of op.deps) ≡ op.deps.count) where
-          p8 : leb op.payload_len l.max_payload ≡ true
+        module _ (h8 : op.payload.len ≤ l.max_payload) (ld : length (deps_of op.deps) ≡ op.deps.count) where
+          p8 : leb op.payload.len l.max_payload ≡ true
           p8 = le-leb _ _ h8
 
           pub too_many_causes : l.max_deps < op.deps.count → Validates l time op verdict (refused (TooManyCauses op.actor op.seq))

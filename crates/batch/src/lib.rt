@@ -5,8 +5,7 @@ mod limits; // the tests 5 to 12 of one row
 pub mod raw; // the rows of a batch
 pub mod settings; // the closing list
 
-use clock::vector::Outcome;
-use row::Reading;
+use error::Refusal;
 
 // Settings of a batch call.
 #[derive(Clone, Copy)]
@@ -27,11 +26,9 @@ pub struct MergeLimits {
     pub max_payload: u64,
 }
 
-// How reading a batch ended: where its first row stands, or the refusal. How many rows it has and what 5 to 12 come
-// to; where the reading is refused no rows, and nothing refused by 5 to 12.
+// A batch that was read: how many rows it has, and what 5 to 12 come to.
 #[derive(Clone, Copy)]
 pub struct BatchRead {
-    pub reading: Reading,
     pub rows: usize,
-    pub valid: Outcome,
+    pub valid: Result<(), Refusal>,
 }

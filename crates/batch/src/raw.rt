@@ -2,27 +2,13 @@
 // a batch, read in one pass: 3 and 4 by the first fault in reading; each row's validation beside it.
 ghost use Rattle.std.specs.Prelude.{◌≡◌, ◌≤◌, length};
 ghost use Rattle.batch.specs.Settings.{limits_of};
-ghost use Rattle.batch.specs.Inside.BatchReads.{no_batch, ReadsRows, ReadsBatch, RowsStart};
+ghost use Rattle.batch.specs.Inside.BatchReads.{ReadsRows, first_row, ReadsBatch, RowsStart};
 
 use crate::limits::validated;
 use crate::{BatchRead, MergeLimits};
-use clock::vector::Outcome;
-use codec::NumberRead;
 use codec::reader::get_varint;
 use error::Refusal;
-use row::Reading;
 use row::reader::read_row;
-
-// A batch that is refused.
-fn no_batch(r: Refusal) -> BatchRead
-    ensures { result ≡ no_batch r }
-{
-    BatchRead {
-        reading: Reading::Refused(r),
-        rows: 0,
-        valid: Outcome::Done,
-    }
-}
 
 // So many rows from `first` on, and then nothing; where each starts.
 fn read_rows(
@@ -32,53 +18,39 @@ fn read_rows(
     limits: MergeLimits,
     time: u64,
     starts: &mut [u64],
-) -> BatchRead
+) -> Result<BatchRead, Refusal>
     requires { (rows ≤ 64) × (64 ≤ length starts.old) }
     ensures reads { ReadsRows s.now first rows (limits_of limits) time result }
-    ensures start { RowsStart result.reading s.now starts.new rows }
+    ensures start { RowsStart result s.now first starts.new }
 {
-    let mut valid = Outcome::Done;
+    let mut valid = Ok(());
     let mut at = first;
-    let mut i: usize = 0;
-    while i < rows {
-        let row = read_row(s, at);
-        let reading = row.reading;
-        match reading {
-            Reading::Refused(r) => return no_batch(r),
-            Reading::Read(next) => {
-                valid = validated(valid, limits, time, row.op, row.verdict);
-                starts[i] = at as u64;
-                at = next;
-                i += 1;
-                continue;
-            }
-        }
+    for i in 0..rows {
+        let (row, next) = read_row(s, at)?;
+        valid = validated(valid, limits, time, row.op, row.verdict);
+        starts[i] = at as u64;
+        at = next;
     }
     if at != s.len() {
-        return no_batch(Refusal::Unreadable);
+        return Err(Refusal::Unreadable);
     }
-    BatchRead {
-        reading: Reading::Read(first),
-        rows: rows,
-        valid: valid,
-    }
+    Ok(BatchRead { rows, valid })
 }
 
 // A count of at most 64, as many rows, and then nothing; where each row starts.
-pub fn read_batch(s: &[u8], limits: MergeLimits, time: u64, starts: &mut [u64]) -> BatchRead
+pub fn read_batch(
+    s: &[u8],
+    limits: MergeLimits,
+    time: u64,
+    starts: &mut [u64],
+) -> Result<BatchRead, Refusal>
     requires { 64 ≤ length starts.old }
     ensures reads { ReadsBatch s.now (limits_of limits) time result }
-    ensures start { RowsStart result.reading s.now starts.new result.rows }
+    ensures start { RowsStart result s.now (first_row s.now) starts.new }
 {
-    let NumberRead::Value {
-        value: count,
-        next: first,
-    } = get_varint(s, 0)
-    else {
-        return no_batch(Refusal::Unreadable);
-    };
+    let (count, first) = get_varint(s, 0).or(Err(Refusal::Unreadable))?;
     if count > 64 {
-        return no_batch(Refusal::OverCapacity);
+        return Err(Refusal::OverCapacity);
     }
     read_rows(s, first, count as usize, limits, time, starts)
 }

@@ -6,14 +6,9 @@ ghost use Rattle.batch.specs.Settings.{limits_of};
 use crate::MergeLimits;
 
 // Whether the settings are within the closing list.
+#[tactic(auto, unfolding(merging::specs::Batch::limits_ok, crate::specs::Settings::limits_of))]
 pub fn are_within(limits: MergeLimits) -> bool
     ensures { result ≡ limits_ok (limits_of limits) }
 {
-    if limits.max_pending > 64 {
-        return false;
-    }
-    if limits.max_deps > 16 {
-        return false;
-    }
-    limits.max_payload <= 256
+    limits.max_pending <= 64 && limits.max_deps <= 16 && limits.max_payload <= 256
 }

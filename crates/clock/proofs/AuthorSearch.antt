@@ -7,15 +7,14 @@ use native.Mathlib.Numerals.{add-one}
 use native.Mathlib.Omega.{arith}
 use lib.Dec.{eqb, ltb}
 use lib.ListN.{length, take, drop, get_or, set, replicate, length-take, length-append, length-drop, length-set, drop_of_length-le}
-use lib.Seq.{drop-cons, get_or-take, take-set-lt, take-suc-set, set-append_left, take-append-le, drop-append-le, drop-append-add, take_at}
+use lib.Seq.{drop-cons, take-set-lt, take-suc-set, set-append_left, take-append-le, drop-append-le, drop-append-add, take_at}
 use borrow.Author.Tests.{eq-eqb, ne_eqb, lt-ltb, le-ltb, eqb-true, ltb-true}
 use Rattle.words.specs.Areas.{pad}
 use Rattle.words.proofs.Moves.{up_turn}
-use Rattle.clock.specs.declared.raw.Place.{Place}
-use Rattle.clock.specs.declared.raw.Place.TheVariants.{Here, Gap}
+use Rattle.std.specs.declared.result.Result.TheVariants.{Ok, Err}
 use Rattle.clock.specs.Entries.{get, put}
 use Rattle.clock.specs.Vector.{authors_of, numbers_of}
-use Rattle.clock.specs.Inside.Columns.{next, search, put_in}
+use Rattle.clock.specs.Inside.Columns.{Place, next, search, put_in}
 use Rattle.clock.proofs.RisingAuthors.{Rises, none, more}
 use Rattle.clock.proofs.EntryLaws.{absent}
 use Rattle.words.specs.Choice.{pick}
@@ -23,18 +22,25 @@ use Rattle.words.specs.Inside.Moves.{moved_up}
 
 -- the search, i authors on
 unfoldable pub onward : ℕ → Place → Place
-onward i (Here j) = Here (i + j)
-onward i (Gap j) = Gap (i + j)
+onward i (Ok j) = Ok (i + j)
+onward i (Err j) = Err (i + j)
+
+-- a place and its number
+ap_ok : {i j : ℕ} → i ≡ j → ◌≡◌ {A = Place} (Ok i) (Ok j)
+ap_ok e = rw e refl
+
+ap_err : {i j : ℕ} → i ≡ j → ◌≡◌ {A = Place} (Err i) (Err j)
+ap_err e = rw e refl
 
 onward_none : (p : Place) → p ≡ onward 0 p
 unfolding onward
-onward_none (Here j) = ap Here (omega arith)
-onward_none (Gap j) = ap Gap (omega arith)
+onward_none (Ok j) = ap_ok (omega arith)
+onward_none (Err j) = ap_err (omega arith)
 
 onward_next : (i : ℕ) (p : Place) → onward i (next p) ≡ onward (i + 1) p
 unfolding onward next
-onward_next i (Here j) = ap Here (omega arith)
-onward_next i (Gap j) = ap Gap (omega arith)
+onward_next i (Ok j) = ap_ok (omega arith)
+onward_next i (Err j) = ap_err (omega arith)
 
 abbrev pub Left : List ℕ → ℕ → ℕ → Type 0
 Left ks a i = search ks a ≡ onward i (search (drop i ks) a)
@@ -42,32 +48,23 @@ Left ks a i = search ks a ≡ onward i (search (drop i ks) a)
 pub find_start : (ks : List ℕ) (a : ℕ) → Left ks a 0
 find_start ks a = onward_none (search ks a)
 
-module _ (s : List ℕ) (n a i b : ℕ) (hn : n ≤ length s) (h : i < n) (e : b ≡ get_or s i 0) where
-  long : i < length (take n s)
-  long = simp length-take (omega arith)
-
-  here : get_or (take n s) i 0 ≡ b
-  here = get_or-take n s i 0 h ∙ sym e
-
-  pub find_here : b ≡ a → Left (take n s) a i → Here i ≡ search (take n s) a
+module _ (ks : List ℕ) (a i b : ℕ) (h : i < length ks) (e : b ≡ get_or ks i 0) where
+  pub find_here : b ≡ a → Left ks a i → Ok i ≡ search ks a
   unfolding search onward
-  find_here q inv = sym (inv ∙ rw (drop-cons (take n s) i 0 long, here) (simp (eq-eqb b a q) (ap Here (omega arith))))
+  find_here q inv = sym (inv ∙ rw (drop-cons ks i 0 h, ← e) (simp (eq-eqb b a q) (ap_ok (omega arith))))
 
-  pub find_gap : (b ≡ a → ⊥) → a < b → Left (take n s) a i → Gap i ≡ search (take n s) a
+  pub find_gap : (b ≡ a → ⊥) → a < b → Left ks a i → Err i ≡ search ks a
   unfolding search onward
-  find_gap q l inv =
-      sym (inv ∙ rw (drop-cons (take n s) i 0 long, here) (simp (ne_eqb b a q, lt-ltb a b l) (ap Gap (omega arith))))
+  find_gap q l inv = sym (inv ∙ rw (drop-cons ks i 0 h, ← e) (simp (ne_eqb b a q, lt-ltb a b l) (ap_err (omega arith))))
 
-  pub find_turn : (b ≡ a → ⊥) → b ≤ a → Left (take n s) a i → Left (take n s) a (i + 1)
+  pub find_turn : (b ≡ a → ⊥) → b ≤ a → Left ks a i → Left ks a (i + 1)
   unfolding search
   find_turn q l inv =
-      inv
-      ∙ rw (add-one, drop-cons (take n s) i 0 long, here) (simp (ne_eqb b a q, le-ltb a b l) (onward_next i _ ∙ rw add-one))
+      inv ∙ rw (add-one, drop-cons ks i 0 h, ← e) (simp (ne_eqb b a q, le-ltb a b l) (onward_next i _ ∙ rw add-one))
 
-pub find_end : (s : List ℕ) (n a i : ℕ) → n ≤ length s → i ≡ n → Left (take n s) a i → Gap i ≡ search (take n s) a
+pub find_end : (ks : List ℕ) (a i : ℕ) → i ≡ length ks → Left ks a i → Err i ≡ search ks a
 unfolding search onward
-find_end s n a i hn e inv =
-    sym (inv ∙ rw (drop_of_length-le (take n s) {i = i} (simp length-take (omega arith))) (ap Gap (omega arith)))
+find_end ks a i e inv = sym (inv ∙ rw (drop_of_length-le ks {i = i} (omega arith)) (ap_err (omega arith)))
 
 -- a column with v put in at i
 unfoldable pub ins : ℕ → ℕ → List ℕ → List ℕ
@@ -76,18 +73,18 @@ ins i v l = take i l ++ (v ∷ drop i l)
 -- what the place means for the entries
 pub data Found (a n : ℕ) (es : List (ℕ × ℕ)) : Place → Type 0 where
   at_here : {i : ℕ} → i < length es → get es a ≡ get_or (numbers_of es) i 0 → authors_of (put es a n) ≡ authors_of es
-      → numbers_of (put es a n) ≡ set (numbers_of es) i n → Found a n es (Here i)
+      → numbers_of (put es a n) ≡ set (numbers_of es) i n → Found a n es (Ok i)
   at_gap : {i : ℕ} → i ≤ length es → get es a ≡ 0 → authors_of (put es a n) ≡ ins i a (authors_of es)
-      → numbers_of (put es a n) ≡ ins i n (numbers_of es) → Found a n es (Gap i)
+      → numbers_of (put es a n) ≡ ins i n (numbers_of es) → Found a n es (Err i)
 
 module _ (a n : ℕ) where
   found_next : (b m : ℕ) (es : List (ℕ × ℕ)) (p : Place) → eqb b a ≡ false → ltb a b ≡ false → Found a n es p → Found a n ((b, m) ∷ es) (next p)
   unfolding get put authors_of numbers_of next ins
-  found_next b m es (Here i) e l (at_here h g p q) = at_here {i = suc i} (omega arith) (simp (e, g)) (simp (e, l, p)) (simp (e, l, q))
-  found_next b m es (Gap i) e l (at_gap h g p q) = at_gap {i = suc i} (omega arith) (simp (e, g)) (simp (e, l, p)) (simp (e, l, q))
+  found_next b m es (Ok i) e l (at_here h g p q) = at_here {i = suc i} (omega arith) (simp (e, g)) (simp (e, l, p)) (simp (e, l, q))
+  found_next b m es (Err i) e l (at_gap h g p q) = at_gap {i = suc i} (omega arith) (simp (e, g)) (simp (e, l, p)) (simp (e, l, q))
 
   found_by : (b m : ℕ) (es : List (ℕ × ℕ)) (p : Place) → Rises (suc b) es → Found a n es p → (e l : Bool) → eqb b a ≡ e → ltb a b ≡ l
-      → Found a n ((b, m) ∷ es) (pick e (Here 0) (pick l (Gap 0) (next p)))
+      → Found a n ((b, m) ∷ es) (pick e (Ok 0) (pick l (Err 0) (next p)))
   unfolding get put authors_of numbers_of ins
   found_by b m es p r v true l e f =
       at_here {i = 0} (omega arith) (simp e) (simp e (ap (λ (x : ℕ). x ∷ authors_of es) (sym (eqb-true b a e)))) (simp e)

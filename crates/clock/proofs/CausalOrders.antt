@@ -7,17 +7,14 @@ use native.Mathlib.Omega.{arith}
 use Rattle.error.specs.declared.Refusal.TheVariants.{UnsoundStore}
 use Rattle.clock.specs.declared.vector.VectorClock.{VectorClock}
 use Rattle.clock.specs.declared.vector.CausalOrder.{CausalOrder}
-use Rattle.clock.specs.declared.vector.Outcome.TheVariants as outcome
-use Rattle.clock.specs.declared.vector.OrderAnswer.TheVariants as order
-use Rattle.clock.specs.declared.vector.Changed.{Changed}
 use Rattle.clock.specs.Entries.{get, merge, dominates}
 use Rattle.clock.specs.FidgeMattern.{◌⊑◌, Ordered, Join}
-use Rattle.clock.specs.Vector.{entries, clock_of, sound, grown, order_of, compare_call, merge_call, changed_of, Compares, Merges}
+use Rattle.clock.specs.Vector.{entries, clock_of, sound, grown, order_of, compare_call, merge_call, Compares, Merges}
 use Rattle.clock.proofs.RisingAuthors.{Rises, rises_of}
 use Rattle.clock.proofs.EntryLaws.{get_merge, covers_below, below_covers}
 use Rattle.clock.proofs.ClockEntries.{entries_of, sound_rising}
 use Rattle.clock.proofs.ClockCalls.{grown_done}
-use Rattle.error.specs.Answer.{nothing}
+use Rattle.error.specs.Answer.{Answer, done, refused, nothing, ends}
 
 -- covering is the order, for entries whose authors rise
 module _ (us vs : List (ℕ × ℕ)) (ru : Rises 0 us) (rv : Rises 0 vs) where
@@ -42,14 +39,14 @@ module _ (us vs : List (ℕ × ℕ)) (ru : Rises 0 us) (rv : Rises 0 vs) where
   }
 
 module _ (c d : VectorClock) where
-  pub compare_refused : sound c && sound d ≡ false → Compares c d (order.Refused UnsoundStore)
+  pub compare_refused : sound c && sound d ≡ false → Compares c d (refused UnsoundStore)
   unfolding compare_call
   compare_refused h = record {
     answer = rw h;
     order = λ o e. absurd (let z : ◌≡◌ {A = ℕ} 0 1 = cc in omega arith);
   }
 
-  pub merge_refused : sound c && sound d ≡ false → Merges c d (record { outcome = outcome.Refused UnsoundStore; clock = c })
+  pub merge_refused : sound c && sound d ≡ false → Merges c d (refused UnsoundStore) c
   unfolding merge_call
   merge_refused h = record {
     ended = rw h;
@@ -63,7 +60,7 @@ module _ (c d : VectorClock) where
     rd : Rises 0 (entries d)
     rd = rises_of 0 (entries d) (sound_rising d sd)
 
-    pub compare_told : (o : CausalOrder) → o ≡ order_of (dominates (entries c) (entries d)) (dominates (entries d) (entries c)) → Compares c d (order.Order o)
+    pub compare_told : (o : CausalOrder) → o ≡ order_of (dominates (entries c) (entries d)) (dominates (entries d) (entries c)) → Compares c d (done o)
     unfolding compare_call
     compare_told o e = record {
       answer = rw (sc, sd, e);
@@ -72,12 +69,12 @@ module _ (c d : VectorClock) where
           rw k (ordered (entries c) (entries d) rc rd _ _ refl refl);
     }
 
-    pub merge_told : (r : Changed) → changed_of r ≡ grown c (merge (entries c) (entries d)) nothing → Merges c d r
+    pub merge_told : (r : Answer Unit) (c' : VectorClock) → ends r c' ≡ grown c (merge (entries c) (entries d)) nothing → Merges c d r c'
     unfolding merge_call
-    merge_told r e = record {
+    merge_told r c' e = record {
       ended = rw (sc, sd) e;
       join = λ t.
-          let k : r.clock ≡ clock_of (merge (entries c) (entries d)) = (grown_done c (merge (entries c) (entries d)) (changed_of r) e t).1 in
-          let m : entries r.clock ≡ merge (entries c) (entries d) = ap entries k ∙ entries_of (merge (entries c) (entries d)) in
+          let k : c' ≡ clock_of (merge (entries c) (entries d)) = (grown_done c (merge (entries c) (entries d)) (ends r c') e t).1 in
+          let m : entries c' ≡ merge (entries c) (entries d) = ap entries k ∙ entries_of (merge (entries c) (entries d)) in
           rw m (joined (entries c) (entries d) rc rd);
     }

@@ -34,11 +34,6 @@ pub column_is : (s l : List ℕ) (at i : ℕ) → length l ≡ 32 → i ≡ 32 �
 column_is s l at i h e f =
     ext_get_or 0 l (column s at 32) (h ∙ sym (length_column s at 32)) (λ k m. f k (omega arith) ∙ sym (column_at s at 32 k (omega arith)))
 
-pub word_moved : (s : List ℕ) (at by i v : ℕ) → v ≡ get64 s (at + 16 * i + by) → v ≡ get64 s (at + by + 16 * i)
-word_moved s at by i v e =
-    let f : at + 16 * i + by ≡ at + by + 16 * i = omega arith in
-    rw f at e
-
 -- the bytes of i entries
 unfoldable pub entry_bytes : VectorClock → ℕ → List ℕ
 entry_bytes c i = bes (zipped (take i c.authors) (take i c.numbers))

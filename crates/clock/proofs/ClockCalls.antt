@@ -13,13 +13,13 @@ use Rattle.words.specs.Areas.{pad}
 use Rattle.words.proofs.Words.{test}
 use Rattle.error.specs.declared.Refusal.{Refusal}
 use Rattle.error.specs.declared.Refusal.TheVariants.{AuthorsFull}
-use Rattle.error.specs.Answer.{Answer, done, refused, nothing, Ends, ends}
-use Rattle.clock.specs.declared.raw.Place.{Place}
-use Rattle.clock.specs.declared.raw.Place.TheVariants.{Here, Gap}
+use Rattle.error.specs.Answer.{Answer, done, refused, nothing, ends}
+use Rattle.error.specs.declared.Ends.{Ends}
+use Rattle.std.specs.declared.result.Result.TheVariants.{Ok, Err}
 use Rattle.clock.specs.declared.vector.VectorClock.{VectorClock}
 use Rattle.clock.specs.Entries.{get, put, observe, enter, merge, dominates}
 use Rattle.clock.specs.Vector.{authors_of, numbers_of, entries, clock_of, sound, grown}
-use Rattle.clock.specs.Inside.Columns.{search, put_in}
+use Rattle.clock.specs.Inside.Columns.{Place, search, put_in}
 use Rattle.clock.proofs.RisingAuthors.{rises_of, rising_observe}
 use Rattle.clock.proofs.EntryLaws.{observe_enter, merge_longer}
 use Rattle.clock.proofs.ClockEntries.{length_authors, length_numbers, entries_of, sound_of, sound_few, sound_rising, used_authors, used_numbers, count_is, authors_are, numbers_are, clock_is, entry_next}
@@ -50,33 +50,33 @@ module _ (c : VectorClock) (s : sound c ≡ true) (la : length c.authors ≡ 32)
   view : (p : Place) → Found_at p → Found a n (entries c) p
   view p e = found_is a n (entries c) (take c.count c.authors) p (rises_of 0 (entries c) (sound_rising c s)) (used_authors c s la ln) e
 
-  here_below' : Found a n (entries c) (Here i) → i < c.count
+  here_below' : Found a n (entries c) (Ok i) → i < c.count
   here_below' (at_here h g p q) = omega (arith, count_is c s la ln)
 
-  pub here_below : Found_at (Here i) → i < c.count
-  here_below e = here_below' (view (Here i) e)
+  pub here_below : Found_at (Ok i) → i < c.count
+  here_below e = here_below' (view (Ok i) e)
 
-  gap_below' : Found a n (entries c) (Gap i) → i ≤ c.count
+  gap_below' : Found a n (entries c) (Err i) → i ≤ c.count
   gap_below' (at_gap h g p q) = omega (arith, count_is c s la ln)
 
-  pub gap_below : Found_at (Gap i) → i ≤ c.count
-  gap_below e = gap_below' (view (Gap i) e)
+  pub gap_below : Found_at (Err i) → i ≤ c.count
+  gap_below e = gap_below' (view (Err i) e)
 
-  get_here' : i < c.count → Found a n (entries c) (Here i) → get_or c.numbers i 0 ≡ get (entries c) a
+  get_here' : i < c.count → Found a n (entries c) (Ok i) → get_or c.numbers i 0 ≡ get (entries c) a
   get_here' k (at_here h g p q) =
       sym (get_or-take c.count c.numbers i 0 k) ∙ rw (used_numbers c s la ln) (sym g)
 
-  pub get_here : Found_at (Here i) → get_or c.numbers i 0 ≡ get (entries c) a
-  get_here e = get_here' (here_below e) (view (Here i) e)
+  pub get_here : Found_at (Ok i) → get_or c.numbers i 0 ≡ get (entries c) a
+  get_here e = get_here' (here_below e) (view (Ok i) e)
 
-  get_gap' : Found a n (entries c) (Gap i) → 0 ≡ get (entries c) a
+  get_gap' : Found a n (entries c) (Err i) → 0 ≡ get (entries c) a
   get_gap' (at_gap h g p q) = sym g
 
-  pub get_gap : Found_at (Gap i) → 0 ≡ get (entries c) a
-  get_gap e = get_gap' (view (Gap i) e)
+  pub get_gap : Found_at (Err i) → 0 ≡ get (entries c) a
+  get_gap e = get_gap' (view (Err i) e)
 
   -- the number is set where the author stands
-  put_here' : Found a n (entries c) (Here i)
+  put_here' : Found a n (entries c) (Ok i)
       → record { answer = done nothing; left = record { authors = c.authors; numbers = set c.numbers i n; count = c.count } } ≡ grown c (put (entries c) a n) nothing
   unfolding clock_of
   put_here' (at_here h g p q) =
@@ -92,12 +92,12 @@ module _ (c : VectorClock) (s : sound c ≡ true) (la : length c.authors ≡ 32)
       (λ j. record { answer = done nothing; left = record { authors = ea j; numbers = en j; count = ec j } })
       ∙ grown_yes c (put (entries c) a n) nothing (omega arith)
 
-  pub put_here : Found_at (Here i)
+  pub put_here : Found_at (Ok i)
       → record { answer = done nothing; left = record { authors = c.authors; numbers = set c.numbers i n; count = c.count } } ≡ grown c (put (entries c) a n) nothing
-  put_here e = put_here' (view (Here i) e)
+  put_here e = put_here' (view (Ok i) e)
 
   -- no place is left
-  put_full' : c.count ≡ 32 → Found a n (entries c) (Gap i) → ends (refused AuthorsFull) c ≡ grown c (put (entries c) a n) nothing
+  put_full' : c.count ≡ 32 → Found a n (entries c) (Err i) → ends (refused AuthorsFull) c ≡ grown c (put (entries c) a n) nothing
   put_full' k (at_gap h g p q) =
       grown_no c (put (entries c) a n) nothing
       (omega (
@@ -108,11 +108,11 @@ module _ (c : VectorClock) (s : sound c ≡ true) (la : length c.authors ≡ 32)
         ap length p ∙ length_ins i a (authors_of (entries c)) (omega (arith, length_authors (entries c))),
       ))
 
-  pub put_full : c.count ≡ 32 → Found_at (Gap i) → ends (refused AuthorsFull) c ≡ grown c (put (entries c) a n) nothing
-  put_full k e = put_full' k (view (Gap i) e)
+  pub put_full : c.count ≡ 32 → Found_at (Err i) → ends (refused AuthorsFull) c ≡ grown c (put (entries c) a n) nothing
+  put_full k e = put_full' k (view (Err i) e)
 
   -- the author is put in
-  put_gap' : (ks ns : List ℕ) → (c.count ≡ 32 → ⊥) → ks ≡ put_in c.authors c.count i a → ns ≡ put_in c.numbers c.count i n → Found a n (entries c) (Gap i)
+  put_gap' : (ks ns : List ℕ) → (c.count ≡ 32 → ⊥) → ks ≡ put_in c.authors c.count i a → ns ≡ put_in c.numbers c.count i n → Found a n (entries c) (Err i)
       → record { answer = done nothing; left = record { authors = ks; numbers = ns; count = c.count + 1 } } ≡ grown c (put (entries c) a n) nothing
   unfolding clock_of
   put_gap' ks ns k ek en (at_gap h g p q) =
@@ -132,9 +132,9 @@ module _ (c : VectorClock) (s : sound c ≡ true) (la : length c.authors ≡ 32)
       (λ j. record { answer = done nothing; left = record { authors = fa j; numbers = fn j; count = fc j } })
       ∙ grown_yes c (put (entries c) a n) nothing (omega arith)
 
-  pub put_gap : (ks ns : List ℕ) → (c.count ≡ 32 → ⊥) → Found_at (Gap i) → ks ≡ put_in c.authors c.count i a → ns ≡ put_in c.numbers c.count i n
+  pub put_gap : (ks ns : List ℕ) → (c.count ≡ 32 → ⊥) → Found_at (Err i) → ks ≡ put_in c.authors c.count i a → ns ≡ put_in c.numbers c.count i n
       → record { answer = done nothing; left = record { authors = ks; numbers = ns; count = c.count + 1 } } ≡ grown c (put (entries c) a n) nothing
-  put_gap ks ns k e ek en = put_gap' ks ns k ek en (view (Gap i) e)
+  put_gap ks ns k e ek en = put_gap' ks ns k ek en (view (Err i) e)
 
 -- entering: a number that is not below is put
 pub enter_put : (c : VectorClock) (a n have : ℕ) (r : Ends Unit VectorClock) → have ≡ get (entries c) a → have ≤ n → r ≡ grown c (put (entries c) a n) nothing
@@ -144,7 +144,7 @@ enter_put c a n have r e h q = let z : max (get (entries c) a) n ≡ n = omega a
 
 module _ (c : VectorClock) (s : sound c ≡ true) (la : length c.authors ≡ 32) (ln : length c.numbers ≡ 32) where
   -- any other leaves the one that stands there
-  pub enter_less : (a n i : ℕ) → Here i ≡ search (take c.count c.authors) a → n ≤ get_or c.numbers i 0
+  pub enter_less : (a n i : ℕ) → Ok i ≡ search (take c.count c.authors) a → n ≤ get_or c.numbers i 0
       → record { answer = done nothing; left = c } ≡ grown c (enter (entries c) a n) nothing
   unfolding enter
   enter_less a n i f h =
@@ -200,17 +200,17 @@ module _ (c : VectorClock) (es : List (ℕ × ℕ)) (q : Ends Unit VectorClock) 
       (λ j. record { answer = refused ((grown_refused r d).1 j); left = (grown_refused r d).2 j })
       ∙ grown_no c es n (grown_refused r d).0
 
--- covering, entry by entry
-module _ (c d : VectorClock) (sd : sound d ≡ true) (la : length d.authors ≡ 32) (ln : length d.numbers ≡ 32) where
-  abbrev pub Covering : ℕ → Type 0
-  Covering i = dominates (entries c) (entries d) ≡ dominates (entries c) (drop i (entries d))
+-- covering, entry by entry: i entries are covered
+abbrev pub Covering : VectorClock → VectorClock → ℕ → Type 0
+Covering c d i = dominates (entries c) (entries d) ≡ dominates (entries c) (drop i (entries d))
 
-  module _ (i have want : ℕ) (h : i < d.count) (g : have ≡ get (entries c) (get_or d.authors i 0)) (w : want ≡ get_or d.numbers i 0) (inv : Covering i) where
+module _ (c d : VectorClock) (sd : sound d ≡ true) (la : length d.authors ≡ 32) (ln : length d.numbers ≡ 32) where
+  module _ (i have want : ℕ) (h : i < d.count) (g : have ≡ get (entries c) (get_or d.authors i 0)) (w : want ≡ get_or d.numbers i 0) (inv : Covering c d i) where
     one : dominates (entries c) (entries d) ≡ leb want have && dominates (entries c) (drop (i + 1) (entries d))
     unfolding dominates
     one = inv ∙ rw (entry_next d sd la ln i h, ← g, ← w)
 
-    pub cover_turn : want ≤ have → Covering (i + 1)
+    pub cover_turn : want ≤ have → Covering c d (i + 1)
     cover_turn l = one ∙ rw (le-leb want have l)
 
     pub cover_not : have < want → false ≡ dominates (entries c) (entries d)
@@ -219,7 +219,7 @@ module _ (c d : VectorClock) (sd : sound d ≡ true) (la : length d.authors ≡ 
   all_passed : (i : ℕ) → d.count ≤ i → drop i (entries d) ≡ []
   all_passed i h = drop_of_length-le (entries d) {i = i} (omega (arith, count_is d sd la ln))
 
-  pub cover_end : (i : ℕ) → d.count ≤ i → Covering i → true ≡ dominates (entries c) (entries d)
+  pub cover_end : (i : ℕ) → d.count ≤ i → Covering c d i → true ≡ dominates (entries c) (entries d)
   unfolding dominates
   cover_end i h inv = sym (inv ∙ rw (all_passed i h))
 
@@ -264,12 +264,15 @@ module _ (c d e : VectorClock) (sd : sound d ≡ true) (la : length d.authors �
           left = on ∙ ap (λ (l : List (ℕ × ℕ)). merge l (drop (i + 1) (entries d))) (sym o);
         }
 
-    pub merge_stop : (r : Refusal) → q.answer ≡ refused r → ends (refused AuthorsFull) c ≡ grown c (merge (entries c) (entries d)) nothing
+    pub merge_stop : (r : Refusal) → q.answer ≡ refused r → ends (refused r) c ≡ grown c (merge (entries c) (entries d)) nothing
     merge_stop r t =
-        grown_no c (merge (entries c) (entries d)) nothing
-        (rw on
-        (omega (
-          arith,
-          (grown_refused e (observe (entries e) a n) q step r t).0,
-          merge_longer (observe (entries e) a n) (drop (i + 1) (entries d)),
-        )))
+        let full = grown_refused e (observe (entries e) a n) q step r t in
+        rw full.1
+        (grown_no c (merge (entries c) (entries d)) nothing
+        (rw on (omega (arith, full.0, merge_longer (observe (entries e) a n) (drop (i + 1) (entries d))))))
+
+-- entries that fit are taken, and the answer is yes
+pub grown_fits : (c d : VectorClock) (es : List (ℕ × ℕ)) {r : Answer Unit} → length es ≤ 32 → ends r d ≡ grown c es nothing → (r ≡ done nothing) × (d ≡ clock_of es)
+grown_fits c d es {r} h e =
+    let same : ends r d ≡ record { answer = done nothing; left = clock_of es } = e ∙ sym (grown_yes c es nothing h) in
+    (ap (λ (x : Ends Unit VectorClock). x.answer) same, ap (λ (x : Ends Unit VectorClock). x.left) same)

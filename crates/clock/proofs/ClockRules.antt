@@ -1,63 +1,71 @@
 -- One turn of each test of a clock's rules, and the test of all.
-use Prim.Native.Nat.{ℕ, zero, suc, ◌+◌, ◌-◌, ◌≤◌, ◌<◌}
+use Prim.Native.Nat.{ℕ, suc, ◌+◌, ◌-◌, ◌≤◌, ◌<◌}
 use mathlib.Core.Path.{◌≡◌, refl, sym, ◌∙◌}
 use mathlib.Core.Bool.{Bool, true, false, ◌&&◌}
 use mathlib.Core.List.{List, [], ◌∷◌}
 use native.Mathlib.Numerals.{add-one}
 use native.Mathlib.Omega.{arith}
 use lib.Dec.{leb}
-use lib.ListN.{length, take, drop, get_or, length-take, drop_of_length-le}
-use lib.Seq.{drop-cons, get_or-take, length-take-le}
+use lib.ListN.{length, take, drop, get_or, length-drop, drop_of_length-le}
+use lib.Seq.{drop-cons, length-take-le}
+use Rattle.std.proofs.Math.Seq.{take-length}
 use borrow.Author.Tests.{eq-eqb, ne_eqb, le-leb, lt-leb}
+use Rattle.error.specs.declared.Refusal.{Refusal}
+use Rattle.error.specs.declared.Refusal.TheVariants.{UnsoundStore}
+use Rattle.error.specs.Answer.{done, refused, nothing, unless}
 use Rattle.clock.specs.declared.vector.VectorClock.{VectorClock}
 use Rattle.clock.specs.Vector.{zeros, entries, sound}
 use Rattle.clock.specs.Inside.Columns.{ascending}
 use Rattle.clock.proofs.ClockEntries.{rising_pairs}
 
 -- what is left of the test from i on
-abbrev pub Rest : List ℕ → ℕ → ℕ → Type 0
-Rest s n i = ascending 0 (take n s) ≡ ascending (suc (get_or s (i - 1) 0)) (drop i (take n s))
+abbrev pub Rest : List ℕ → ℕ → Type 0
+Rest s i = ascending 0 s ≡ ascending (suc (get_or s (i - 1) 0)) (drop i s)
 
-pub rises_start : (s : List ℕ) (n : ℕ) → n ≤ length s → Rest s n 1
+pub rises_start : (s : List ℕ) → Rest s 1
 unfolding ascending
-rises_start [] zero h = refl
-rises_start [] (suc n) h = absurd (omega arith)
-rises_start (a ∷ s) zero h = refl
-rises_start (a ∷ s) (suc n) h = rw (le-leb 0 a (omega arith))
+rises_start [] = refl
+rises_start (a ∷ s) = rw (le-leb 0 a (omega arith))
 
-module _ (s : List ℕ) (n i : ℕ) (hn : n ≤ length s) (h : i < n) (inv : Rest s n i) where
-  one : ascending 0 (take n s) ≡ leb (suc (get_or s (i - 1) 0)) (get_or s i 0) && ascending (suc (get_or s i 0)) (drop (suc i) (take n s))
+module _ (s : List ℕ) (i : ℕ) (h : i < length s) (inv : Rest s i) where
+  one : ascending 0 s ≡ leb (suc (get_or s (i - 1) 0)) (get_or s i 0) && ascending (suc (get_or s i 0)) (drop (suc i) s)
   unfolding ascending
-  one = inv ∙ rw (drop-cons (take n s) i 0 (simp length-take (omega arith)), get_or-take n s i 0 h)
+  one = inv ∙ rw (drop-cons s i 0 h)
 
-  pub rises_turn : get_or s (i - 1) 0 < get_or s i 0 → Rest s n (i + 1)
+  pub rises_turn : get_or s (i - 1) 0 < get_or s i 0 → Rest s (i + 1)
   rises_turn l =
       let e : i + 1 - 1 ≡ i = omega arith in
       one ∙ rw (le-leb (suc (get_or s (i - 1) 0)) (get_or s i 0) (omega arith), e, add-one)
 
-  pub rises_not : get_or s i 0 ≤ get_or s (i - 1) 0 → false ≡ ascending 0 (take n s)
+  pub rises_not : get_or s i 0 ≤ get_or s (i - 1) 0 → false ≡ ascending 0 s
   rises_not l = sym (one ∙ rw (lt-leb (suc (get_or s (i - 1) 0)) (get_or s i 0) (omega arith)))
 
-pub rises_end : (s : List ℕ) (n i : ℕ) → n ≤ i → Rest s n i → true ≡ ascending 0 (take n s)
+pub rises_end : (s : List ℕ) (i : ℕ) → length s ≤ i → Rest s i → true ≡ ascending 0 s
 unfolding ascending
-rises_end s n i h inv = sym (inv ∙ rw (drop_of_length-le (take n s) {i = i} (simp length-take (omega arith))))
+rises_end s i h inv = sym (inv ∙ rw (drop_of_length-le s {i = i} h))
 
 -- zeros from a place on
-abbrev pub Clear : List ℕ → ℕ → ℕ → Type 0
-Clear s from i = zeros (drop from s) ≡ zeros (drop i s)
+abbrev pub Clear : List ℕ → ℕ → Type 0
+Clear s i = zeros s ≡ zeros (drop i s)
 
-module _ (s : List ℕ) (from i : ℕ) (h : i < length s) (inv : Clear s from i) where
-  pub clear_turn : get_or s i 0 ≡ 0 → Clear s from (i + 1)
+module _ (s : List ℕ) (i : ℕ) (h : i < length s) (inv : Clear s i) where
+  pub clear_turn : get_or s i 0 ≡ 0 → Clear s (i + 1)
   unfolding zeros
   clear_turn e = inv ∙ rw (add-one, drop-cons s i 0 h, eq-eqb (get_or s i 0) 0 e)
 
-  pub clear_not : (get_or s i 0 ≡ 0 → ⊥) → false ≡ zeros (drop from s)
+  pub clear_not : (get_or s i 0 ≡ 0 → ⊥) → false ≡ zeros s
   unfolding zeros
   clear_not e = sym (inv ∙ rw (drop-cons s i 0 h, ne_eqb (get_or s i 0) 0 e))
 
-pub clear_end : (s : List ℕ) (from i : ℕ) → length s ≤ i → Clear s from i → true ≡ zeros (drop from s)
+pub clear_end : (s : List ℕ) (i : ℕ) → length s ≤ i → Clear s i → true ≡ zeros s
 unfolding zeros
-clear_end s from i h inv = sym (inv ∙ rw (drop_of_length-le s {i = i} h))
+clear_end s i h inv = sym (inv ∙ rw (drop_of_length-le s {i = i} h))
+
+-- what stands from n on, as a slice of a column
+pub from_on : (s : List ℕ) (n : ℕ) → length s ≡ 32 → take (32 - n) (drop n s) ≡ drop n s
+from_on s n h =
+    let e : 32 - n ≡ length (drop n s) = omega (arith, length-drop n s) in
+    rw e (take-length (drop n s))
 
 -- all the rules
 pub sound_many : (c : VectorClock) → 32 < c.count → false ≡ sound c
@@ -83,3 +91,19 @@ module _ (c : VectorClock) (h : c.count ≤ 32) (la : length c.authors ≡ 32) (
   pub sound_last : (r : Bool) → true ≡ ascending 0 (take c.count c.authors) → true ≡ zeros (drop c.count c.authors)
       → r ≡ zeros (drop c.count c.numbers) → r ≡ sound c
   sound_last r e f g = g ∙ sym (whole ∙ rw (← e, ← f))
+
+-- a test of the rules that passed, or that did not
+module _ (c : VectorClock) where
+  pub checked : done nothing ≡ unless (sound c) UnsoundStore (done nothing) → sound c ≡ true
+  checked e = told (sound c) e
+    where
+      told : (b : Bool) → done nothing ≡ unless b UnsoundStore (done nothing) → b ≡ true
+      told true e = refl
+      told false e = absurd (let z : ◌≡◌ {A = ℕ} 0 1 = cc in omega arith)
+
+  pub unsound : {k : Refusal} → refused k ≡ unless (sound c) UnsoundStore (done nothing) → (k ≡ UnsoundStore) × (sound c ≡ false)
+  unsound {k} e = told (sound c) e
+    where
+      told : (b : Bool) → refused k ≡ unless b UnsoundStore (done nothing) → (k ≡ UnsoundStore) × (b ≡ false)
+      told true e = absurd (let z : ◌≡◌ {A = ℕ} 0 1 = cc in omega arith)
+      told false e = (cc, refl)

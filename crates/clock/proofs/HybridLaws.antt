@@ -1,9 +1,9 @@
 -- What each answer of a hybrid clock's calls comes to, a law for each outcome.
-use Prim.Native.Nat.{ℕ, ◌+◌, ◌<◌, ◌≤◌}
+use Prim.Native.Nat.{ℕ, ◌+◌, ◌<◌, ◌≤◌, max, min}
 use mathlib.Core.Path.{◌≡◌, sym, ap, ◌∙◌}
 use native.Mathlib.Omega.{arith}
 use lib.Dec.{ltb}
-use borrow.Author.Tests.{lt-ltb, le-ltb, le-leb, lt-leb, eq-eqb, ne_eqb}
+use borrow.Author.Tests.{ltb-true, ltb-false, lt-ltb, le-ltb, le-leb, lt-leb, eq-eqb, ne_eqb}
 use mathlib.Core.Logic.{inl, inr}
 use Rattle.words.proofs.Words.{test}
 use Rattle.error.specs.declared.Refusal.TheVariants.{CounterOverflow, RemoteAhead}
@@ -23,6 +23,13 @@ pub max_left : (a b : ℕ) → b ≤ a → greater a b ≡ a
 unfolding greater
 max_left a b h = rw (le-ltb a b h)
 
+pub max_greater : (a b : ℕ) → max a b ≡ greater a b
+max_greater a b =
+    elim (test (ltb a b)) [
+      | inl h ↦ omega (arith, max_right a b (ltb-true a b h), ltb-true a b h)
+      | inr h ↦ omega (arith, max_left a b (ltb-false a b h), ltb-false a b h)
+    ]
+
 -- one of the two
 pub max_below : (a b n : ℕ) → n ≡ greater a b → n ≤ a + b
 unfolding greater
@@ -36,6 +43,13 @@ sum_fits a b h = rw (lt-ltb (a + b) 18446744073709551616 h)
 pub sum_full : (a b : ℕ) → 18446744073709551616 ≤ a + b → saturating a b ≡ 18446744073709551615
 unfolding saturating
 sum_full a b h = rw (le-ltb (a + b) 18446744073709551616 h)
+
+pub min_saturating : (a b : ℕ) → min (a + b) 18446744073709551615 ≡ saturating a b
+min_saturating a b =
+    elim (test (ltb (a + b) 18446744073709551616)) [
+      | inl h ↦ omega (arith, sum_fits a b (ltb-true (a + b) 18446744073709551616 h), ltb-true (a + b) 18446744073709551616 h)
+      | inr h ↦ omega (arith, sum_full a b (ltb-false (a + b) 18446744073709551616 h), ltb-false (a + b) 18446744073709551616 h)
+    ]
 
 -- the counter after a send
 module _ (j : Hlc) (l : ℕ) where

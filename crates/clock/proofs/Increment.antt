@@ -8,7 +8,8 @@ use Rattle.error.specs.declared.Refusal.TheVariants.{CounterOverflow}
 use Rattle.clock.specs.declared.vector.VectorClock.{VectorClock}
 use Rattle.clock.specs.Entries.{get, put, increment}
 use Rattle.clock.specs.Vector.{entries, sound, grown, increment_call}
-use Rattle.error.specs.Answer.{refused, Ends, ends}
+use Rattle.error.specs.Answer.{refused, ends}
+use Rattle.error.specs.declared.Ends.{Ends}
 
 module _ (c : VectorClock) (a have : ℕ) (s : sound c ≡ true) (e : have ≡ get (entries c) a) where
   pub increment_spent : 18446744073709551615 ≤ have → ends (refused CounterOverflow) c ≡ increment_call c a

@@ -11,7 +11,7 @@ use borrow.Author.Tests.{ltb-true, ltb-false, lt-ltb, le-ltb, eq-eqb, ne_eqb}
 use Rattle.words.proofs.Words.{test}
 use Rattle.clock.specs.Order.{less, stamp_key, stamp_less, stamp_order}
 use Rattle.clock.specs.declared.stamp.Timestamp.{Timestamp}
-use Rattle.clock.specs.declared.stamp.Ordering.TheVariants.{Less, Equal, Greater}
+use Rattle.std.specs.declared.cmp.Ordering.TheVariants.{Less, Equal, Greater}
 
 -- heads that differ decide
 pub less_below : (x y : ℕ) (xs ys : List ℕ) → x < y → less (x ∷ xs) (y ∷ ys) ≡ true

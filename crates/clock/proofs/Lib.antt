@@ -1,4 +1,5 @@
 pub mod LexicographicOrder
+pub mod DerivedOrder
 pub mod HybridLaws
 pub mod SendRule
 pub mod Monotone

@@ -5,14 +5,11 @@ use Rattle.words.specs.Names.{Time}
 use Rattle.words.specs.Choice.{pick, saturating}
 use Rattle.stubs.specs.declared.ActorId.{ActorId}
 use Rattle.error.specs.declared.Refusal.TheVariants.{CounterOverflow, RemoteAhead}
-use Rattle.error.specs.Answer.{Ends, ends, done, refused, nothing}
+use Rattle.error.specs.Answer.{ends, done, refused, nothing}
+use Rattle.error.specs.declared.Ends.{Ends}
 use Rattle.clock.specs.Hlc.{Hlc, initially, send_event, receive_event}
 use Rattle.clock.specs.declared.stamp.Timestamp.{Timestamp}
 use Rattle.clock.specs.declared.hybrid.HybridClock.{HybridClock}
-use Rattle.clock.specs.declared.hybrid.Issued.{Issued}
-use Rattle.clock.specs.declared.hybrid.Issued.TheVariants as issued
-use Rattle.clock.specs.declared.hybrid.Updated.{Updated}
-use Rattle.clock.specs.declared.hybrid.Updated.TheVariants as updated
 
 -- the paper's clock and stamp inside the Rust's
 abbrev pub hlc_of : HybridClock → Hlc
@@ -54,12 +51,3 @@ update_call j m pt =
     pick (leb m.wall_time (saturating pt j.max_drift_ms))
     (receive_at j (receive_event (hlc_of j) (stamp_hlc m) pt))
     (ends (refused (RemoteAhead m.wall_time pt)) j)
-
--- what the code's answers stand for
-abbrev pub issued_of : Issued → Ends Timestamp HybridClock
-issued_of (issued.Stamp stamp clock) = ends (done stamp) clock
-issued_of (issued.Refused refusal clock) = ends (refused refusal) clock
-
-abbrev pub updated_of : Updated → Ends Unit HybridClock
-updated_of (updated.Clock clock) = ends (done nothing) clock
-updated_of (updated.Refused refusal clock) = ends (refused refusal) clock

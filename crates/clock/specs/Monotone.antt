@@ -2,7 +2,8 @@
 use Rattle.std.specs.Prelude.{◌≡◌, true}
 use mathlib.Core.List.{List, [], ◌∷◌, Memᴰ}
 use Rattle.words.specs.Names.{Time}
-use Rattle.error.specs.Answer.{Answer, done, refused}
+use Rattle.std.specs.declared.result.Result.TheVariants.{Ok, Err}
+use Rattle.error.specs.Answer.{Answer, done}
 use Rattle.clock.specs.Order.{stamp_less}
 use Rattle.clock.specs.Hybrid.{now_call, update_call}
 use Rattle.clock.specs.declared.stamp.Timestamp.{Timestamp}
@@ -20,12 +21,12 @@ pub record History : Type 0 where
   pub seen : List Timestamp
 
 abbrev pub with_stamp : Answer Timestamp → List Timestamp → List Timestamp
-with_stamp (done t) ts = t ∷ ts
-with_stamp (refused r) ts = ts
+with_stamp (Ok t) ts = t ∷ ts
+with_stamp (Err r) ts = ts
 
 abbrev pub with_remote : Answer Unit → Timestamp → List Timestamp → List Timestamp
-with_remote (done u) m ts = m ∷ ts
-with_remote (refused r) m ts = ts
+with_remote (Ok u) m ts = m ∷ ts
+with_remote (Err r) m ts = ts
 
 -- a refused event leaves the clock and the stamps
 unfoldable pub step : History → Event → History

@@ -3,7 +3,8 @@ use Rattle.std.specs.Prelude.{◌+◌, ◌-◌, ◌^◌, ◌≡◌, ltb}
 use Rattle.words.specs.Names.{Time}
 use Rattle.words.specs.Choice.{pick}
 use Rattle.error.specs.declared.Refusal.TheVariants.{CounterOverflow}
-use Rattle.error.specs.Answer.{Ends, ends, refused}
+use Rattle.error.specs.Answer.{ends, refused}
+use Rattle.error.specs.declared.Ends.{Ends}
 use Rattle.clock.specs.Hlc.{Hlc, send_l, send_c, send_event}
 use Rattle.clock.specs.Hybrid.{stamped_at, now_call}
 use Rattle.clock.specs.declared.stamp.Timestamp.{Timestamp}

@@ -6,22 +6,13 @@ use Rattle.words.specs.Sizes.{most_authors}
 use Rattle.words.specs.Choice.{pick}
 use Rattle.words.specs.Areas.{pad}
 use Rattle.error.specs.declared.Refusal.TheVariants.{UnsoundStore, AuthorsFull, CounterOverflow}
-use Rattle.error.specs.Answer.{Answer, done, refused, unless, nothing, Ends, ends}
+use Rattle.error.specs.Answer.{Answer, done, refused, unless, nothing, ends}
+use Rattle.error.specs.declared.Ends.{Ends}
 use Rattle.clock.specs.Entries.{rising, get, observe, increment, merge, dominates}
 use Rattle.clock.specs.FidgeMattern.{Ordered, Join}
 use Rattle.clock.specs.declared.vector.VectorClock.{VectorClock}
 use Rattle.clock.specs.declared.vector.CausalOrder.{CausalOrder}
 use Rattle.clock.specs.declared.vector.CausalOrder.TheVariants.{Before, After, Equal, Concurrent}
-use Rattle.clock.specs.declared.vector.Outcome.{Outcome}
-use Rattle.clock.specs.declared.vector.Outcome.TheVariants as outcome
-use Rattle.clock.specs.declared.vector.NumberAnswer.{NumberAnswer}
-use Rattle.clock.specs.declared.vector.NumberAnswer.TheVariants as number
-use Rattle.clock.specs.declared.vector.CoverAnswer.{CoverAnswer}
-use Rattle.clock.specs.declared.vector.CoverAnswer.TheVariants as cover
-use Rattle.clock.specs.declared.vector.OrderAnswer.{OrderAnswer}
-use Rattle.clock.specs.declared.vector.OrderAnswer.TheVariants as order
-use Rattle.clock.specs.declared.vector.Changed.{Changed}
-use Rattle.clock.specs.declared.vector.Incremented.{Incremented}
 
 -- two columns side by side
 unfoldable pub pairs : List Author → List Seq → Clock
@@ -92,36 +83,12 @@ compare_call c d =
     unless (sound c && sound d) UnsoundStore
     (done (order_of (dominates (entries c) (entries d)) (dominates (entries d) (entries c))))
 
--- what the code's answers stand for
-abbrev pub outcome_of : Outcome → Answer Unit
-outcome_of outcome.Done = done nothing
-outcome_of (outcome.Refused r) = refused r
-
-abbrev pub number_answer : NumberAnswer → Answer Seq
-number_answer (number.Number n) = done n
-number_answer (number.Refused r) = refused r
-
-abbrev pub cover_of : CoverAnswer → Answer Bool
-cover_of cover.Covers = done true
-cover_of cover.Lacks = done false
-cover_of (cover.Refused r) = refused r
-
-abbrev pub order_answer : OrderAnswer → Answer CausalOrder
-order_answer (order.Order o) = done o
-order_answer (order.Refused r) = refused r
-
-abbrev pub changed_of : Changed → Ends Unit VectorClock
-changed_of r = ends (outcome_of r.outcome) r.clock
-
-abbrev pub incremented_of : Incremented → Ends Seq VectorClock
-incremented_of r = ends (number_answer r.answer) r.clock
-
 -- what compare promises: its answer, and that this is Fidge's and Mattern's order on functions from authors to numbers
-pub record Compares (c d : VectorClock) (r : OrderAnswer) : Type 0 where
-  pub answer : order_answer r ≡ compare_call c d
-  pub order : (o : CausalOrder) → order_answer r ≡ done o → Ordered (get (entries c)) (get (entries d)) o
+pub record Compares (c d : VectorClock) (r : Answer CausalOrder) : Type 0 where
+  pub answer : r ≡ compare_call c d
+  pub order : (o : CausalOrder) → r ≡ done o → Ordered (get (entries c)) (get (entries d)) o
 
--- what merge promises: how it ends, and that this is the least upper bound in that order
-pub record Merges (c d : VectorClock) (r : Changed) : Type 0 where
-  pub ended : changed_of r ≡ merge_call c d
-  pub join : outcome_of r.outcome ≡ done nothing → Join (get (entries c)) (get (entries d)) (get (entries r.clock))
+-- what merge promises of a clock c that becomes c': how it ends, and that this is the least upper bound in that order
+pub record Merges (c d : VectorClock) (r : Answer Unit) (c' : VectorClock) : Type 0 where
+  pub ended : ends r c' ≡ merge_call c d
+  pub join : r ≡ done nothing → Join (get (entries c)) (get (entries d)) (get (entries c'))

@@ -3,11 +3,11 @@
 ghost use Rattle.std.specs.Prelude.{◌≡◌};
 ghost use Rattle.clock.specs.Hlc.{greater, send_c, receive_c};
 ghost use Rattle.error.specs.Answer.{done, ends};
-ghost use Rattle.clock.specs.Hybrid.{hlc_of, stamp_hlc, new_clock, moved_to, stamp_of_event, issued_of, now_call, updated_of, update_call};
+ghost use Rattle.clock.specs.Hybrid.{hlc_of, stamp_hlc, new_clock, moved_to, stamp_of_event, now_call, update_call};
 ghost use Rattle.words.specs.Choice.{saturating};
 
 use crate::stamp::Timestamp;
-use error::Refusal;
+use error::{Ends, Refusal};
 use stubs::ActorId;
 
 // Default bound on how far ahead of local time a remote stamp may be, in milliseconds.
@@ -22,47 +22,25 @@ pub struct HybridClock {
     pub max_drift_ms: u64,
 }
 
-// A new stamp with the clock moved on, or the refusal with the clock as it was.
-#[derive(Clone, Copy)]
-pub enum Issued {
-    Stamp {
-        stamp: Timestamp,
-        clock: HybridClock,
-    },
-    Refused {
-        refusal: Refusal,
-        clock: HybridClock,
-    },
-}
-
-// The clock moved on, or the refusal with the clock as it was.
-#[derive(Clone, Copy)]
-pub enum Updated {
-    Clock(HybridClock),
-    Refused {
-        refusal: Refusal,
-        clock: HybridClock,
-    },
-}
+// A new stamp, or the refusal; and the clock moved on, as it was where the call is refused.
+pub type Issued = Ends<Timestamp, HybridClock>;
+// The same without a stamp.
+pub type Updated = Ends<(), HybridClock>;
 
 // The greater of two numbers.
+#[tactic(auto, using(crate::proofs::HybridLaws::max_greater))]
 pub fn greater(a: u64, b: u64) -> u64
     ensures { result ≡ greater a b }
 {
-    if a < b {
-        return b;
-    }
-    a
+    a.max(b)
 }
 
 // The sum, or the greatest number where it does not fit.
+#[tactic(auto, using(crate::proofs::HybridLaws::min_saturating))]
 pub fn saturating_add(a: u64, b: u64) -> u64
     ensures { result ≡ saturating a b }
 {
-    if b > 18446744073709551615 - a {
-        return 18446744073709551615;
-    }
-    a + b
+    a.saturating_add(b)
 }
 
 impl HybridClock {
@@ -82,12 +60,9 @@ impl HybridClock {
     pub fn set_max_drift(self, max_drift_ms: u64) -> HybridClock
         ensures { result ≡ record { actor = self.actor; last_wall = self.last_wall; last_counter = self.last_counter; max_drift_ms = max_drift_ms } }
     {
-        let actor = self.actor;
         HybridClock {
-            actor,
-            last_wall: self.last_wall,
-            last_counter: self.last_counter,
             max_drift_ms,
+            ..self
         }
     }
 
@@ -95,43 +70,40 @@ impl HybridClock {
     fn moved(self, last_wall: u64, last_counter: u32) -> HybridClock
         ensures { result ≡ moved_to self (record { l = last_wall; c = last_counter }) }
     {
-        let actor = self.actor;
         HybridClock {
-            actor,
             last_wall,
             last_counter,
-            max_drift_ms: self.max_drift_ms,
+            ..self
         }
     }
 
     // The stamp of that wall time and counter, with the clock moved to it.
     fn issue(self, wall: u64, counter: u32) -> Issued
-        ensures { issued_of result ≡ ends (done (stamp_of_event self (record { l = wall; c = counter }))) (moved_to self (record { l = wall; c = counter })) }
+        ensures { result ≡ ends (done (stamp_of_event self (record { l = wall; c = counter }))) (moved_to self (record { l = wall; c = counter })) }
     {
-        let actor = self.actor;
-        let clock = self.moved(wall, counter);
-        Issued::Stamp {
-            stamp: Timestamp {
-                wall_time: wall,
-                logical_counter: counter,
-                actor_id: actor,
-            },
-            clock,
+        let stamp = Timestamp {
+            wall_time: wall,
+            logical_counter: counter,
+            actor_id: self.actor,
+        };
+        Ends {
+            answer: Ok(stamp),
+            left: self.moved(wall, counter),
         }
     }
 
     // Issues a stamp at the physical time. paper: "Send or local event". The Rust arranges it differently and answers the same
     // (specs/SendRule.antt).
     pub fn now(self, physical: u64) -> Issued
-        ensures { issued_of result ≡ now_call self physical }
+        ensures { result ≡ now_call self physical }
     {
         let own_wall = self.last_wall; // paper: "l'.j := l.j;"
         let wall = greater(own_wall, physical); // paper: "l.j := max(l'.j, pt.j)"
         let counter = self.send_counter(wall);
-        if counter > 4294967295 {
-            return Issued::Refused {
-                refusal: Refusal::CounterOverflow,
-                clock: self,
+        if counter > u32::MAX as u64 {
+            return Ends {
+                answer: Err(Refusal::CounterOverflow),
+                left: self,
             };
         }
         self.issue(wall, counter as u32)
@@ -151,29 +123,32 @@ impl HybridClock {
 
     // Folds a remote stamp in at the physical time. paper: "Receive event of message m". The drift is the Rust's.
     pub fn update(self, remote: Timestamp, physical: u64) -> Updated
-        ensures { updated_of result ≡ update_call self remote physical }
+        ensures { result ≡ update_call self remote physical }
     {
         let remote_wall = remote.wall_time;
         let drift = self.max_drift_ms;
         if remote_wall > saturating_add(physical, drift) {
-            return Updated::Refused {
-                refusal: Refusal::RemoteAhead {
+            return Ends {
+                answer: Err(Refusal::RemoteAhead {
                     remote_wall,
                     local_wall: physical,
-                },
-                clock: self,
+                }),
+                left: self,
             };
         }
         let own_wall = self.last_wall; // paper: "l'.j := l.j;"
         let wall = greater(greater(own_wall, remote_wall), physical); // paper: "l.j := max(l'.j, l.m, pt.j)"
         let counter = self.next_counter(remote, wall);
-        if counter > 4294967295 {
-            return Updated::Refused {
-                refusal: Refusal::CounterOverflow,
-                clock: self,
+        if counter > u32::MAX as u64 {
+            return Ends {
+                answer: Err(Refusal::CounterOverflow),
+                left: self,
             };
         }
-        Updated::Clock(self.moved(wall, counter as u32))
+        Ends {
+            answer: Ok(()),
+            left: self.moved(wall, counter as u32),
+        }
     }
 
     // The counter after a remote stamp is taken in and the new wall time is `wall`. It may be one more than 32 bits hold.

@@ -4,45 +4,29 @@ ghost use Rattle.std.specs.Prelude.{◌≡◌, true, ◌+◌, ◌≤◌, length,
 ghost use Rattle.words.specs.Areas.{put_at};
 ghost use Rattle.clock.specs.Area.{clock_at, clock_bytes};
 ghost use Rattle.clock.specs.Entries.{get, put, observe, enter, merge, dominates};
-ghost use Rattle.clock.specs.Inside.Columns.{search, put_in, in_columns, room_of};
-ghost use Rattle.clock.specs.Vector.{sound, entries, clock_of, grown, changed_of};
-ghost use Rattle.error.specs.Answer.{nothing};
+ghost use Rattle.clock.specs.Inside.Columns.{search, put_in, moved_on};
+ghost use Rattle.clock.specs.Vector.{sound, entries, grown, clock_of};
+ghost use Rattle.error.specs.Answer.{nothing, ends};
 
-use crate::vector::{Changed, Outcome, VectorClock};
+use crate::vector::VectorClock;
 use error::Refusal;
 use stubs::ActorId;
+use words::raw::{get_word, put_word};
 
-// Where an author stands in a rising column of authors, or where it is to be put.
-#[derive(Clone, Copy)]
-enum Place {
-    Here(usize),
-    Gap(usize),
-}
-
-// How many places of a clock are used once an author was observed, or that it is an author too many.
-#[derive(Clone, Copy)]
-pub enum Room {
-    Count(usize),
-    Full,
-}
-
-// The place of an author among the first n.
-fn find(authors: &[u64], n: usize, a: u64) -> Place
-    requires { n ≤ length authors.now }
-    ensures { result ≡ search (take n authors.now) a }
+// Where an author stands among rising authors, or where it is to be put.
+fn find(authors: &[u64], author: u64) -> Result<usize, usize>
+    ensures { result ≡ search authors.now author }
 {
-    let mut i = 0;
-    while i < n {
-        let b = authors[i];
-        if b == a {
-            return Place::Here(i);
+    for i in 0..authors.len() {
+        let other = authors[i];
+        if other == author {
+            return Ok(i);
         }
-        if a < b {
-            return Place::Gap(i);
+        if author < other {
+            return Err(i);
         }
-        i += 1;
     }
-    Place::Gap(i)
+    Err(authors.len())
 }
 
 // Puts v in at i, of the n that are used.
@@ -50,189 +34,110 @@ fn put_in(s: &mut [u64], n: usize, i: usize, v: u64)
     requires { (i ≤ n) × (n + 1 ≤ length s.old) }
     ensures { s.new ≡ put_in s.old n i v }
 {
-    let mut j = n;
-    while i < j {
-        s[j] = s[j - 1];
-        j -= 1;
+    for j in (i..n).rev() {
+        s[j + 1] = s[j];
     }
     s[i] = v;
 }
 
 // The highest number seen of an author, 0 where it is absent.
-pub fn get(c: VectorClock, actor: ActorId) -> u64
-    requires { sound c ≡ true }
-    ensures { result ≡ get (entries c) actor.0 }
+pub fn get(c: &VectorClock, actor: ActorId) -> u64
+    requires { sound c.now ≡ true }
+    ensures { result ≡ get (entries c.now) actor.0 }
 {
-    let authors = c.authors;
-    let place = find(&authors, c.count, actor.0);
-    match place {
-        Place::Here(i) => c.numbers[i],
-        Place::Gap(_) => 0,
+    match find(&c.authors[..c.count], actor.0) {
+        Ok(i) => c.numbers[i],
+        Err(_) => 0,
     }
 }
 
-// An author's number set to n; refused where that is an author too many.
-pub(crate) fn entered(c: VectorClock, a: u64, n: u64) -> Changed
-    requires { sound c ≡ true }
-    ensures { changed_of result ≡ grown c (put (entries c) a n) nothing }
+// Puts an author with its number in at its place; refused where that is an author too many.
+fn insert(c: &mut VectorClock, i: usize, actor: ActorId, n: u64) -> Result<(), Refusal>
+    requires { (sound c.old ≡ true) × (Err i ≡ search (take c.old.count c.old.authors) actor.0) }
+    ensures { ends result c.new ≡ grown c.old (put (entries c.old) actor.0 n) nothing }
 {
     let count = c.count;
-    let mut authors = c.authors;
-    let mut numbers = c.numbers;
-    let place = find(&authors, count, a);
-    match place {
-        Place::Here(i) => {
-            numbers[i] = n;
-            Changed {
-                outcome: Outcome::Done,
-                clock: VectorClock {
-                    authors: authors,
-                    numbers: numbers,
-                    count: count,
-                },
-            }
+    if count == 32 {
+        return Err(Refusal::AuthorsFull);
+    }
+    put_in(&mut c.authors, count, i, actor.0);
+    put_in(&mut c.numbers, count, i, n);
+    c.count = count + 1;
+    Ok(())
+}
+
+// Sets an author's number to n; refused where that is an author too many.
+pub(crate) fn set(c: &mut VectorClock, actor: ActorId, n: u64) -> Result<(), Refusal>
+    requires { sound c.old ≡ true }
+    ensures { ends result c.new ≡ grown c.old (put (entries c.old) actor.0 n) nothing }
+{
+    match find(&c.authors[..c.count], actor.0) {
+        Ok(i) => {
+            c.numbers[i] = n;
+            Ok(())
         }
-        Place::Gap(i) => {
-            if count == 32 {
-                return Changed {
-                    outcome: Outcome::Refused(Refusal::AuthorsFull),
-                    clock: c,
-                };
-            }
-            put_in(&mut authors, count, i, a);
-            put_in(&mut numbers, count, i, n);
-            Changed {
-                outcome: Outcome::Done,
-                clock: VectorClock {
-                    authors: authors,
-                    numbers: numbers,
-                    count: count + 1,
-                },
-            }
-        }
+        Err(i) => insert(c, i, actor, n),
     }
 }
 
-// An author's number raised to at least seq, 0 too, in a clock that is lent as two columns of which `count` places are used.
-pub fn enter_in(
-    authors: &mut [u64],
-    numbers: &mut [u64],
-    count: usize,
-    actor: ActorId,
-    seq: u64,
-) -> Room
-    requires { (length authors.old ≡ 32) × (length numbers.old ≡ 32) × (sound (in_columns authors.old numbers.old count) ≡ true) }
-    ensures { room_of (in_columns authors.old numbers.old count) authors.new numbers.new result ≡ grown (in_columns authors.old numbers.old count) (enter (entries (in_columns authors.old numbers.old count)) actor.0 seq) nothing }
+// Raises an author's number to at least seq, and enters it with 0 too; refused where that is an author too many.
+pub fn enter(c: &mut VectorClock, actor: ActorId, seq: u64) -> Result<(), Refusal>
+    requires { sound c.old ≡ true }
+    ensures { ends result c.new ≡ grown c.old (enter (entries c.old) actor.0 seq) nothing }
 {
-    let place = find(authors, count, actor.0);
-    match place {
-        Place::Here(i) => {
-            if numbers[i] < seq {
-                numbers[i] = seq;
+    match find(&c.authors[..c.count], actor.0) {
+        Ok(i) => {
+            if c.numbers[i] < seq {
+                c.numbers[i] = seq;
             }
-            Room::Count(count)
+            Ok(())
         }
-        Place::Gap(i) => {
-            if count == 32 {
-                return Room::Full;
-            }
-            put_in(authors, count, i, actor.0);
-            put_in(numbers, count, i, seq);
-            Room::Count(count + 1)
-        }
+        Err(i) => insert(c, i, actor, seq),
     }
 }
 
 // The same in the Rust's manner: no author is entered with 0.
-pub fn observe_in(
-    authors: &mut [u64],
-    numbers: &mut [u64],
-    count: usize,
-    actor: ActorId,
-    seq: u64,
-) -> Room
-    requires { (length authors.old ≡ 32) × (length numbers.old ≡ 32) × (sound (in_columns authors.old numbers.old count) ≡ true) }
-    ensures { room_of (in_columns authors.old numbers.old count) authors.new numbers.new result ≡ grown (in_columns authors.old numbers.old count) (observe (entries (in_columns authors.old numbers.old count)) actor.0 seq) nothing }
+pub fn observe(c: &mut VectorClock, actor: ActorId, seq: u64) -> Result<(), Refusal>
+    requires { sound c.old ≡ true }
+    ensures { ends result c.new ≡ grown c.old (observe (entries c.old) actor.0 seq) nothing }
 {
     if seq == 0 {
-        return Room::Count(count);
+        return Ok(());
     }
-    enter_in(authors, numbers, count, actor, seq)
+    enter(c, actor, seq)
 }
 
-// An author's number raised to at least seq; refused where that is an author too many.
-pub fn observed(c: VectorClock, actor: ActorId, seq: u64) -> Changed
-    requires { sound c ≡ true }
-    ensures { changed_of result ≡ grown c (observe (entries c) actor.0 seq) nothing }
+// The same where the clock has room, so that nothing is refused.
+pub fn raise(c: &mut VectorClock, actor: ActorId, seq: u64)
+    requires { (sound c.old ≡ true) × (length (observe (entries c.old) actor.0 seq) ≤ 32) }
+    ensures { c.new ≡ clock_of (observe (entries c.old) actor.0 seq) }
 {
-    let mut authors = c.authors;
-    let mut numbers = c.numbers;
-    let room = observe_in(&mut authors, &mut numbers, c.count, actor, seq);
-    match room {
-        Room::Count(count) => Changed {
-            outcome: Outcome::Done,
-            clock: VectorClock {
-                authors: authors,
-                numbers: numbers,
-                count: count,
-            },
-        },
-        Room::Full => Changed {
-            outcome: Outcome::Refused(Refusal::AuthorsFull),
-            clock: c,
-        },
-    }
+    observe(c, actor, seq).unwrap();
 }
 
-// Raises an author's number to at least seq.
-pub fn observe(c: VectorClock, actor: ActorId, seq: u64) -> VectorClock
-    requires { (sound c ≡ true) × (length (observe (entries c) actor.0 seq) ≤ 32) }
-    ensures { result ≡ clock_of (observe (entries c) actor.0 seq) }
+// The clock c with each entry of d observed; refused where the authors are too many.
+pub(crate) fn merged(c: &VectorClock, d: &VectorClock) -> Result<VectorClock, Refusal>
+    requires { (sound c.now ≡ true) × (sound d.now ≡ true) }
+    ensures { moved_on c.now result ≡ grown c.now (merge (entries c.now) (entries d.now)) nothing }
 {
-    let step = observed(c, actor, seq);
-    step.clock
-}
-
-// Observes each entry of d; refused, with c as it was, where the authors are too many.
-pub(crate) fn merged(c: VectorClock, d: VectorClock) -> Changed
-    requires { (sound c ≡ true) × (sound d ≡ true) }
-    ensures { changed_of result ≡ grown c (merge (entries c) (entries d)) nothing }
-{
-    let n = d.count;
-    let mut so_far = c;
-    let mut i = 0;
-    while i < n {
-        let step = observed(so_far, ActorId(d.authors[i]), d.numbers[i]);
-        let told = step.outcome;
-        let Outcome::Done = told else {
-            return Changed {
-                outcome: Outcome::Refused(Refusal::AuthorsFull),
-                clock: c,
-            };
-        };
-        so_far = step.clock;
-        i += 1;
+    let mut so_far = *c;
+    for i in 0..d.count {
+        observe(&mut so_far, ActorId(d.authors[i]), d.numbers[i])?;
     }
-    Changed {
-        outcome: Outcome::Done,
-        clock: so_far,
-    }
+    Ok(so_far)
 }
 
 // Whether c covers every entry of d.
-pub(crate) fn covers(c: VectorClock, d: VectorClock) -> bool
-    requires { (sound c ≡ true) × (sound d ≡ true) }
-    ensures { result ≡ dominates (entries c) (entries d) }
+pub(crate) fn covers(c: &VectorClock, d: &VectorClock) -> bool
+    requires { (sound c.now ≡ true) × (sound d.now ≡ true) }
+    ensures { result ≡ dominates (entries c.now) (entries d.now) }
 {
-    let n = d.count;
-    let mut i = 0;
-    while i < n {
+    for i in 0..d.count {
         let have = get(c, ActorId(d.authors[i]));
         let want = d.numbers[i];
         if have < want {
             return false;
         }
-        i += 1;
     }
     true
 }
@@ -242,36 +147,29 @@ pub fn load_clock(s: &[u8], at: usize) -> VectorClock
     requires { at + 520 ≤ length s.now }
     ensures { result ≡ clock_at s.now at }
 {
-    let mut authors = [0u64; 32];
-    let mut numbers = [0u64; 32];
-    let mut i: usize = 0;
-    while i < 32 {
+    let mut authors = [0; 32];
+    let mut numbers = [0; 32];
+    for i in 0..32 {
         let p = at + 16 * i;
-        let a = words::raw::get_word(s, p + 8);
-        let n = words::raw::get_word(s, p + 16);
-        authors[i] = a;
-        numbers[i] = n;
-        i += 1;
+        authors[i] = get_word(s, p + 8);
+        numbers[i] = get_word(s, p + 16);
     }
-    let count = words::raw::get_word(s, at);
     VectorClock {
-        authors: authors,
-        numbers: numbers,
-        count: count as usize,
+        authors,
+        numbers,
+        count: get_word(s, at) as usize,
     }
 }
 
 // Writes a clock at `at`.
-pub fn store_clock(s: &mut [u8], at: usize, c: VectorClock)
+pub fn store_clock(s: &mut [u8], at: usize, c: &VectorClock)
     requires { at + 520 ≤ length s.old }
-    ensures { s.new ≡ put_at s.old at (clock_bytes c) }
+    ensures { s.new ≡ put_at s.old at (clock_bytes c.now) }
 {
-    words::raw::put_word(s, at, c.count as u64);
-    let mut i: usize = 0;
-    while i < 32 {
+    put_word(s, at, c.count as u64);
+    for i in 0..32 {
         let p = at + 16 * i;
-        words::raw::put_word(s, p + 8, c.authors[i]);
-        words::raw::put_word(s, p + 16, c.numbers[i]);
-        i += 1;
+        put_word(s, p + 8, c.authors[i]);
+        put_word(s, p + 16, c.numbers[i]);
     }
 }

@@ -12,6 +12,7 @@ use borrow.Author.Tests.{lt-ltb, le-ltb, le-leb, lt-leb}
 use Rattle.words.proofs.Words.{lt_or_le}
 use Rattle.error.specs.declared.Refusal.{Refusal}
 use Rattle.error.specs.declared.Refusal.TheVariants.{VarintOverflow, Overlong}
+use Rattle.std.specs.declared.result.Result.TheVariants.{Ok, Err}
 use Rattle.error.specs.Answer.{Got, got, bad, after, need}
 use Rattle.codec.specs.Leb128.{groups, overlong}
 use Rattle.codec.specs.Reading.{get_any, only_shortest, get_varint, get_u32}
@@ -69,8 +70,8 @@ within_refused s at most e = off _ (sym e)
 -- of 64 bits and of 32
 within_64 : (s : List ℕ) (at : ℕ) (g : Got ℕ) → g ≡ get_any s at
     → after g (λ v next. need (leb v (2 ^ 64 - 1)) VarintOverflow (only_shortest (bytes_at s at) v next)) ≡ after g (λ v next. only_shortest (bytes_at s at) v next)
-within_64 s at (got v n) e = rw (le-leb v (2 ^ 64 - 1) (omega (arith, (any_read s at v n (sym e)).fits)))
-within_64 s at (bad k) e = refl
+within_64 s at (Ok (v, n)) e = rw (le-leb v (2 ^ 64 - 1) (omega (arith, (any_read s at v n (sym e)).fits)))
+within_64 s at (Err k) e = refl
 
 pub varint_within : (s : List ℕ) (at : ℕ) → get_within (2 ^ 64 - 1) s at ≡ get_varint s at
 unfolding get_within get_varint
@@ -86,8 +87,8 @@ below_32 v =
 within_32 : (s : List ℕ) (at : ℕ) (g : Got ℕ)
     → after g (λ v next. need (leb v (2 ^ 32 - 1)) VarintOverflow (only_shortest (bytes_at s at) v next))
     ≡ after g (λ v next. need (ltb v (2 ^ 32)) VarintOverflow (only_shortest (bytes_at s at) v next))
-within_32 s at (got v n) = rw (below_32 v)
-within_32 s at (bad k) = refl
+within_32 s at (Ok (v, n)) = rw (below_32 v)
+within_32 s at (Err k) = refl
 
 pub u32_within : (s : List ℕ) (at : ℕ) → get_within (2 ^ 32 - 1) s at ≡ get_u32 s at
 unfolding get_within get_u32

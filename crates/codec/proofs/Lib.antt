@@ -6,5 +6,5 @@ pub mod WriterLaws
 pub mod RoundTrip
 pub mod LastByte
 pub mod OneSpelling
+pub mod ReaderSteps
 pub mod LongerInput
-pub mod ReadParts

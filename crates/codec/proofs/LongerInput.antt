@@ -10,16 +10,18 @@ use lib.Seq.{drop-append-le, drop-append-add}
 use borrow.Author.Tests.{lt-ltb, le-leb, leb-true}
 use Rattle.words.specs.Choice.{pick}
 use Rattle.error.specs.declared.Refusal.TheVariants.{Truncated, VarintOverflow, Overlong, TooLarge}
+use Rattle.std.specs.declared.result.Result.TheVariants.{Ok, Err}
 use Rattle.error.specs.Answer.{Got, got, bad, need, after}
 use Rattle.codec.specs.Leb128.{groups, has_last, value_of, overlong}
-use Rattle.codec.specs.Reading.{judged, judge, get_any, only_shortest, get_varint, get_count, Part, get_bytes}
+use Rattle.codec.specs.Reading.{judged, judge, get_any, only_shortest, get_varint, get_count, get_bytes}
+use Rattle.codec.specs.declared.Part.{Part}
 use Rattle.codec.proofs.ReadSteps.{after_got, need_got, and_true}
 use Rattle.codec.proofs.RoundTrip.{ReadVarint, varint_read, varint_short}
 
 -- an answer whose positions are k further on
 abbrev pub moved : {A : Type 0} → ℕ → (A → A) → Got A → Got A
-moved k f (got a n) = got (f a) (k + n)
-moved k f (bad r) = bad r
+moved k f (Ok (a, n)) = got (f a) (k + n)
+moved k f (Err r) = bad r
 
 abbrev pub same : ℕ → ℕ
 same v = v
@@ -55,14 +57,14 @@ module _ (p s : List ℕ) (at : ℕ) where
   count_from : (max : ℕ) (g : Got ℕ)
       → after (moved (length p) same g) (λ n next. need (leb n max && leb n (length (p ++ s) - next)) TooLarge (got n next))
       ≡ moved (length p) same (after g (λ n next. need (leb n max && leb n (length s - next)) TooLarge (got n next)))
-  count_from max (got n next) =
+  count_from max (Ok (n, next)) =
       let z : length (p ++ s) - (length p + next) ≡ length s - next = omega (arith, length-append p s) in
       rw z (chosen (leb n max && leb n (length s - next)))
     where
       chosen : (t : Bool) → need t TooLarge (got n (length p + next)) ≡ moved (length p) same (need t TooLarge (got n next))
       chosen true = refl
       chosen false = refl
-  count_from max (bad r) = refl
+  count_from max (Err r) = refl
 
   pub count_moved : (max : ℕ) → get_count (p ++ s) (length p + at) max ≡ moved (length p) same (get_count s at max)
   unfolding get_count
@@ -71,10 +73,10 @@ module _ (p s : List ℕ) (at : ℕ) where
   bytes_from : (g : Got ℕ)
       → after (moved (length p) same g) (λ n next. got (record { start = next; len = n }) (next + n))
       ≡ moved (length p) (further (length p)) (after g (λ n next. got (record { start = next; len = n }) (next + n)))
-  bytes_from (got n next) =
+  bytes_from (Ok (n, next)) =
       let z : length p + next + n ≡ length p + (next + n) = omega arith in
       rw z
-  bytes_from (bad r) = refl
+  bytes_from (Err r) = refl
 
   pub bytes_moved : (max : ℕ) → get_bytes (p ++ s) (length p + at) max ≡ moved (length p) (further (length p)) (get_bytes s at max)
   unfolding get_bytes

@@ -11,9 +11,11 @@ use Rattle.words.specs.Be.{AllBytes}
 use Rattle.error.specs.declared.Refusal.TheVariants.{TooLarge}
 use Rattle.error.specs.Answer.{got}
 use Rattle.codec.specs.Leb128.{shortest}
-use Rattle.codec.specs.Reading.{get_varint, get_count, Part, part_of, get_bytes}
+use Rattle.codec.specs.Reading.{get_varint, get_count, part_of, get_bytes}
+use Rattle.codec.specs.declared.Part.{Part}
 use Rattle.codec.specs.Writing.{sized}
 use Rattle.codec.specs.Envelopes.{max_frame, max_signature, envelope, read_envelope}
+use Rattle.codec.specs.declared.Envelope.{Envelope}
 use Rattle.codec.specs.RoundTrip.{OnlyShortest, OneSpelling, EnvelopeWritten}
 use Rattle.codec.proofs.ReadSteps.{by, past, got_value, got_next, closed_done}
 use Rattle.codec.proofs.Overlong.{not_overlong_shortest}
@@ -78,7 +80,7 @@ envelope_written s e bs f =
     by (get_varint s 0) _ g (λ v a1 x1 e1.
     by (get_bytes s a1 max_frame) _ e1 (λ body a2 x2 e2.
     by (get_bytes s a2 max_signature) _ e2 (λ sig a3 x3 e3.
-    let w : record { sender = v; body = body; sig = sig } ≡ e = got_value e3 in
+    let w : ◌≡◌ {A = Envelope} (record { sender = record { 0 = v }; body = body; sig = sig }) e = got_value e3 in
     rw (← w)
     (all_stands
     (joined (varint_stands s 0 v a1 bs x1) (joined (bytes_stand s bs a1 max_frame body a2 x2) (bytes_stand s bs a2 max_signature sig a3 x3)))

@@ -10,16 +10,12 @@ use borrow.Author.Tests.{le-leb, lt-leb}
 use Rattle.words.proofs.Words.{lt_or_le}
 use Rattle.error.specs.declared.Refusal.{Refusal}
 use Rattle.error.specs.declared.Refusal.TheVariants.{TrailingBytes}
+use Rattle.std.specs.declared.result.Result.TheVariants.{Ok, Err}
 use Rattle.error.specs.Answer.{Got, got, bad, after, need, Answer, done, refused, and_then}
-use Rattle.codec.specs.Reading.{get_varint, got_number, Part, got_part, finish, finished_at}
+use Rattle.codec.specs.Reading.{get_varint, finish}
+use Rattle.codec.specs.declared.Part.{Part}
 use Rattle.codec.specs.Envelopes.{closed, read_envelope}
 use Rattle.codec.specs.Inside.EnvelopeParts.{read_parts}
-use Rattle.codec.specs.declared.Finished.{Finished}
-use Rattle.codec.specs.declared.Finished.TheVariants as finished
-use Rattle.codec.specs.declared.NumberRead.{NumberRead}
-use Rattle.codec.specs.declared.NumberRead.TheVariants as number
-use Rattle.codec.specs.declared.PartRead.{PartRead}
-use Rattle.codec.specs.declared.PartRead.TheVariants as part
 
 module _ {A B : Type 0} {g : Got A} (f : A → ℕ → Got B) where
   pub on : {a : A} {n : ℕ} {y : Got B} → g ≡ got a n → y ≡ f a n → y ≡ after g f
@@ -47,8 +43,8 @@ not_second e f = rw (e, f)
 
 -- what a reading went through that did not refuse
 pub after_got : {A B : Type 0} (g : Got A) (f : A → ℕ → Got B) {b : B} {m : ℕ} → after g f ≡ got b m → (a : A) × (n : ℕ) × (g ≡ got a n) × (f a n ≡ got b m)
-after_got (got a n) f e = (a, n, refl, e)
-after_got (bad k) f e = let z : ◌≡◌ {A = ℕ} 0 1 = cc in absurd (omega arith)
+after_got (Ok (a, n)) f e = (a, n, refl, e)
+after_got (Err k) f e = let z : ◌≡◌ {A = ℕ} 0 1 = cc in absurd (omega arith)
 
 pub need_got : {A : Type 0} (t : Bool) (k : Refusal) (g : Got A) {a : A} {n : ℕ} → need t k g ≡ got a n → (t ≡ true) × (g ≡ got a n)
 need_got true k g e = (refl, e)
@@ -66,11 +62,21 @@ pub and_true_right : (a : Bool) → (a && true) ≡ a
 and_true_right true = refl
 and_true_right false = refl
 
-pub got_value : {A : Type 0} {a b : A} {m n : ℕ} → got a m ≡ got b n → a ≡ b
-got_value e = cc
+value_in : {A : Type 0} → A → Got A → A
+value_in d (Ok (a, n)) = a
+value_in d (Err k) = d
+
+next_in : {A : Type 0} → Got A → ℕ
+next_in (Ok (a, n)) = n
+next_in (Err k) = 0
+
+pub got_value : {A : Type 0} {a b : A} {m n : ℕ} → ◌≡◌ {A = Got A} (got a m) (got b n) → a ≡ b
+unfolding value_in
+got_value {a} e = ap (value_in a) e
 
 pub got_next : {A : Type 0} {a b : A} {m n : ℕ} → ◌≡◌ {A = Got A} (got a m) (got b n) → m ≡ n
-got_next e = cc
+unfolding next_in
+got_next e = ap next_in e
 
 -- go on with what was read, where nothing was refused
 module _ {A B : Type 0} {P : Type 0} {b : B} {m : ℕ} where
@@ -81,19 +87,6 @@ module _ {A : Type 0} {P : Type 0} {a : A} {n : ℕ} where
   pub past : (t : Bool) (r : Refusal) (g : Got A) → need t r g ≡ got a n → (t ≡ true → g ≡ got a n → P) → P
   past t r g e k = let x = need_got t r g e in k x.0 x.1
 
--- what an answer of the code says of the reading that it stands for
-pub value_read : {g : Got ℕ} {r : NumberRead} {v n : ℕ} → got_number r ≡ g → r ≡ number.Value v n → g ≡ got v n
-value_read e f = sym e ∙ ap got_number f
-
-pub value_refused : {g : Got ℕ} {r : NumberRead} {k : Refusal} → got_number r ≡ g → r ≡ number.Refused k → g ≡ bad k
-value_refused e f = sym e ∙ ap got_number f
-
-pub part_read : {g : Got Part} {r : PartRead} {a l n : ℕ} → got_part r ≡ g → r ≡ part.Part a l n → g ≡ got (record { start = a; len = l }) n
-part_read e f = sym e ∙ ap got_part f
-
-pub part_refused : {g : Got Part} {r : PartRead} {k : Refusal} → got_part r ≡ g → r ≡ part.Refused k → g ≡ bad k
-part_refused e f = sym e ∙ ap got_part f
-
 -- the end of a reading
 module _ {A : Type 0} (s : List ℕ) {g h : Got A} where
   pub shut : {y : Answer A} → h ≡ g → y ≡ closed s h → y ≡ closed s g
@@ -101,7 +94,7 @@ module _ {A : Type 0} (s : List ℕ) {g h : Got A} where
 
 pub closed_done : {A : Type 0} (s : List ℕ) (g : Got A) {a : A} → closed s g ≡ done a → (n : ℕ) × (g ≡ got a n) × (length s ≤ n)
 unfolding finish
-closed_done {A} s (got b n) {a} e =
+closed_done {A} s (Ok (b, n)) {a} e =
     elim (lt_or_le n (length s)) [
       | inl h ↦
           let x : refused TrailingBytes ≡ done a = rw (lt-leb (length s) n h) at e in
@@ -111,7 +104,7 @@ closed_done {A} s (got b n) {a} e =
           let y : b ≡ a = cc in
           (n, ap (λ (z : A). got z n) y, h)
     ]
-closed_done s (bad k) e = absurd (let z : ◌≡◌ {A = ℕ} 0 1 = cc in omega arith)
+closed_done s (Err k) e = absurd (let z : ◌≡◌ {A = ℕ} 0 1 = cc in omega arith)
 
 module _ {A B : Type 0} {a : Answer A} (f : A → Answer B) where
   pub next : {x : A} {y : Answer B} → a ≡ done x → y ≡ f x → y ≡ and_then a f
@@ -119,12 +112,6 @@ module _ {A B : Type 0} {a : Answer A} (f : A → Answer B) where
 
   pub halt : {k : Refusal} → a ≡ refused k → refused k ≡ and_then a f
   halt e = rw e
-
-pub finish_done : (at : ℕ) {a : Answer ℕ} {r : Finished} → finished_at at r ≡ a → r ≡ finished.Done → a ≡ done at
-finish_done at e f = sym e ∙ ap (finished_at at) f
-
-pub finish_refused : (at : ℕ) {a : Answer ℕ} {r : Finished} {k : Refusal} → finished_at at r ≡ a → r ≡ finished.Refused k → a ≡ refused k
-finish_refused at e f = sym e ∙ ap (finished_at at) f
 
 -- an envelope, by its sender
 pub sender_read : (s : List ℕ) {v n : ℕ} → get_varint s 0 ≡ got v n → read_parts s v n ≡ read_envelope s

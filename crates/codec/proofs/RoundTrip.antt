@@ -12,14 +12,16 @@ use borrow.Author.Tests.{lt-ltb, le-ltb, le-leb, lt-leb, leb-true, ltb-true}
 use Rattle.words.specs.Choice.{pick}
 use Rattle.words.proofs.Words.{lt_or_le}
 use Rattle.error.specs.declared.Refusal.TheVariants.{Truncated, VarintOverflow, Overlong, TooLarge}
-use Rattle.error.specs.Answer.{Got, got, bad, after, need, done}
+use Rattle.error.specs.Answer.{Got, got, bad, after, need, done, nothing}
 use Rattle.codec.specs.Leb128.{groups, has_last, value_of, overlong, group_then, groups_of, shortest}
-use Rattle.codec.specs.Reading.{get_u8, judged, judge, get_any, only_shortest, get_varint, get_u32, get_count, Part, part_of, get_bytes, finish}
+use Rattle.codec.specs.Reading.{get_u8, judged, judge, get_any, only_shortest, get_varint, get_u32, get_count, part_of, get_bytes, finish}
+use Rattle.codec.specs.declared.Part.{Part}
 use Rattle.codec.specs.Writing.{sized}
-use Rattle.codec.specs.Envelopes.{max_frame, max_signature, envelope, Envelope, read_envelope}
+use Rattle.codec.specs.Envelopes.{max_frame, max_signature, envelope, read_envelope}
+use Rattle.codec.specs.declared.Envelope.{Envelope}
 use Rattle.codec.proofs.ShortestForm.{short, long, induct, value_at, some, size_below, value_below}
 use Rattle.codec.proofs.Overlong.{ends_some, overlong_true, true_overlong, shortest_not_overlong}
-use Rattle.codec.proofs.ReadSteps.{on, shut, next, after_got, need_got, and_true}
+use Rattle.codec.proofs.ReadSteps.{on, shut, next, after_got, need_got, and_true, got_value, got_next}
 use Rattle.codec.specs.RoundTrip.{VarintBack, OneToTen, NoShorter, TruncatedWhen, OverflowWhen, OverlongWhen, U32IsVarint, EnvelopeBack}
 
 -- 1. The shortest sequence.
@@ -238,8 +240,8 @@ module _ (s : List ℕ) (at : ℕ) where
       need_got _ VarintOverflow _ f in
       let q : (has_last g ≡ true) × (◌≡◌ {A = Got ℕ} (got (value_of 0 g) (at + length g)) (got v n)) = need_got _ Truncated _ p.1 in
       let t : (leb (length g) 10 ≡ true) × (ltb (value_of 0 g) (2 ^ 64) ≡ true) = and_true _ _ p.0 in
-      let e : value_of 0 g ≡ v = cc in
-      let x : at + length g ≡ n = cc in
+      let e : value_of 0 g ≡ v = got_value q.1 in
+      let x : at + length g ≡ n = got_next q.1 in
       let l : 0 < length g = ends_some g q.0 in
       record {
         value = sym e;
@@ -292,7 +294,7 @@ u32_is_varint s at v n f =
     let x = after_got (get_any s at) _ f in
     let y = need_got (ltb x.0 (2 ^ 32)) VarintOverflow _ x.3 in
     let z = shortest_read s at x.0 x.1 v n y.1 in
-    let e : x.0 ≡ v = cc in
+    let e : x.0 ≡ v = got_value z.1 in
     (rw x.2 y.1, omega (arith, ltb-true x.0 (2 ^ 32) y.0))
 
 pub overlong_when : OverlongWhen
@@ -316,8 +318,8 @@ count_inside s at max n next f = counted (after_got (get_varint s at) _ f)
     counted (v, x, e, g) =
         let p : (leb v max && leb v (length s - x) ≡ true) × (◌≡◌ {A = Got ℕ} (got v x) (got n next)) = need_got (leb v max && leb v (length s - x)) TooLarge (got v x) g in
         let q : v ≤ length s - x = leb-true v (length s - x) (and_true (leb v max) (leb v (length s - x)) p.0).1 in
-        let y : v ≡ n = cc in
-        let z : x ≡ next = cc in
+        let y : v ≡ n = got_value p.1 in
+        let z : x ≡ next = got_next p.1 in
         omega (arith, (varint_read s at v x e).inside)
 
 -- 5. An envelope that is written, within the limits, is read: the sender, the bytes of the body and those of the signature come back.
@@ -345,14 +347,14 @@ module _ (sender : ℕ) (body sig : List ℕ) (h : sender < 2 ^ 64) (k : length 
   unfolding sig_from
   sig_stands = behind bytes body_from (sized body) (sized sig) body_stands ∙ sym (append-nil (sized sig))
 
-  ended_there : finish bytes (sig_from + length (sized sig)) ≡ done (sig_from + length (sized sig))
+  ended_there : finish bytes (sig_from + length (sized sig)) ≡ done nothing
   unfolding finish
   ended_there =
       let z : length bytes - (sig_from + length (sized sig)) ≡ 0 = left_behind bytes sig_from (sized sig) [] sig_stands in
       rw (le-leb (length bytes) (sig_from + length (sized sig)) (omega arith))
 
   read : Envelope
-  read = record { sender = sender; body = within body_from body; sig = within sig_from sig }
+  read = record { sender = record { 0 = sender }; body = within body_from body; sig = within sig_from sig }
 
   all_read : read_envelope bytes ≡ done read
   unfolding read_envelope read sig_from
@@ -364,7 +366,7 @@ module _ (sender : ℕ) (body sig : List ℕ) (h : sender < 2 ^ 64) (k : length 
       (on _ (bytes_there bytes sig_from sig [] sig_stands max_signature (omega arith) l) refl)))
       (next _ ended_there refl))
 
-  pub envelope_back : (e : Envelope) × (read_envelope (envelope sender body sig) ≡ done e) × (e.sender ≡ sender)
+  pub envelope_back : (e : Envelope) × (read_envelope (envelope sender body sig) ≡ done e) × (e.sender.0 ≡ sender)
       × (part_of (envelope sender body sig) e.body ≡ body) × (part_of (envelope sender body sig) e.sig ≡ sig)
   unfolding bytes read
   envelope_back =

@@ -1,42 +1,45 @@
 -- The Rust's Reader as a struct that refers to the bytes. 01: "Reader decides between 22 and 24. A refused read leaves its position."
-use Rattle.std.specs.Prelude.{ℕ, ◌≡◌, []}
+use Prim.{⊥}
+use Rattle.std.specs.Prelude.{ℕ, ◌≡◌, List}
+use Rattle.std.specs.Borrow.{Bor}
+use Rattle.std.specs.declared.result.Result.TheVariants.{Ok, Err}
 use Rattle.words.specs.Names.{Bytes, Position}
 use Rattle.words.specs.Areas.{behind}
-use Rattle.error.specs.Answer.{Got, got, bad}
-use Rattle.codec.specs.Reading.{Part, part_of, get_bytes, got_part}
+use Rattle.error.specs.Answer.{Answer, done, refused, Got, ends}
+use Rattle.error.specs.declared.Ends.{Ends}
+use Rattle.codec.specs.Reading.{part_of, get_bytes}
+use Rattle.codec.specs.declared.Part.{Part}
 use Rattle.codec.specs.declared.reader.Reader.{Reader}
-use Rattle.codec.specs.declared.reader.BytesRead.{BytesRead}
 
 -- what a read at the reader's position gives
 abbrev pub read_by : {A : Type 0} → (Bytes → Position → Got A) → Reader → Got A
 read_by read r = read r.buf.now r.pos
 
--- the position past what was read; a refused read leaves it
-abbrev pub past_read : {A : Type 0} → Position → Got A → Position
-past_read at (got a next) = next
-past_read at (bad r) = at
+-- how a read at the reader's position ends: what was read, and the reader past it; a refused read leaves the reader
+abbrev pub left_by : {A : Type 0} → Reader → Got A → Ends A Reader
+left_by r (Ok (a, next)) = ends (done a) (record { buf = r.buf; pos = next })
+left_by r (Err k) = ends (refused k) r
 
--- the reader after a read: the same bytes
-abbrev pub moved : {A : Type 0} → Reader → Got A → Reader
-moved r g = record { buf = r.buf; pos = past_read r.pos g }
+abbrev pub read_call : {A : Type 0} → (Bytes → Position → Got A) → Reader → Ends A Reader
+read_call read r = left_by r (read_by read r)
 
--- the bytes of a part that was read, none where it was refused
-abbrev pub part_in : Bytes → Got Part → Bytes
-part_in s (got p next) = part_of s p
-part_in s (bad r) = []
+-- the bytes s are handed out as the part p: its bytes, and where they lie
+pub record Hands (s : Bor (List ℕ)) (p : Part) (b : Bor (List ℕ)) : Type 0 where
+  pub bytes : b.now ≡ part_of s.now p
+  pub place : b.ref_ptr ≡ behind s.ref_ptr p.start
 
--- and where they lie, if s lies at p: at its start where the read was refused
-abbrev pub part_place : ℕ × ℕ → Got Part → ℕ × ℕ
-part_place p (got q next) = behind p q.start
-part_place p (bad r) = behind p 0
+-- a reading of a part that is handed out, or the same refusal
+abbrev pub HandsPart : Bor (List ℕ) → Answer Part → Answer (Bor (List ℕ)) → Type 0
+HandsPart s (Ok p) (Ok b) = Hands s p b
+HandsPart s (Err k) (Err j) = j ≡ k
+HandsPart s (Ok p) (Err j) = ⊥
+HandsPart s (Err k) (Ok b) = ⊥
 
 -- a length of at most limit and as many bytes, at the reader's position
-abbrev pub bytes_by : (limit : ℕ) → Reader → Got Part
-bytes_by limit = read_by (λ s at. get_bytes s at limit)
+abbrev pub bytes_call : (limit : ℕ) → Reader → Ends Part Reader
+bytes_call limit = read_call (λ s at. get_bytes s at limit)
 
--- what such a read promises: how it ended, the part's bytes, where they lie, and the reader afterwards
-pub record ReadsBytes (limit : ℕ) (d : Reader) (r : BytesRead) (d' : Reader) : Type 0 where
-  pub ended : got_part r.read ≡ bytes_by limit d
-  pub bytes : r.bytes.now ≡ part_in d.buf.now (bytes_by limit d)
-  pub place : r.bytes.ref_ptr ≡ part_place d.buf.ref_ptr (bytes_by limit d)
-  pub reader : d' ≡ moved d (bytes_by limit d)
+-- what such a read promises: the part's bytes and where they lie, or the refusal, and the reader afterwards
+pub record ReadsBytes (limit : ℕ) (d : Reader) (r : Answer (Bor (List ℕ))) (d' : Reader) : Type 0 where
+  pub handed : HandsPart d.buf (bytes_call limit d).answer r
+  pub reader : d' ≡ (bytes_call limit d).left

@@ -3,14 +3,9 @@
 use Rattle.std.specs.Prelude.{ℕ, ◌+◌, ◌-◌, ◌^◌, Bool, not, ◌&&◌, length, take, drop, get_or, ltb, leb}
 use Rattle.words.specs.Names.{Bytes, Position}
 use Rattle.error.specs.declared.Refusal.TheVariants.{Truncated, VarintOverflow, Overlong, TooLarge, TrailingBytes}
-use Rattle.error.specs.Answer.{Answer, done, refused, unless, Got, got, bad, after, need}
+use Rattle.error.specs.Answer.{Answer, done, nothing, unless, Got, got, after, need}
 use Rattle.codec.specs.Leb128.{groups, has_last, value_of, overlong}
-use Rattle.codec.specs.declared.NumberRead.{NumberRead}
-use Rattle.codec.specs.declared.NumberRead.TheVariants as number
-use Rattle.codec.specs.declared.PartRead.{PartRead}
-use Rattle.codec.specs.declared.PartRead.TheVariants as part
-use Rattle.codec.specs.declared.Finished.{Finished}
-use Rattle.codec.specs.declared.Finished.TheVariants as finished
+use Rattle.codec.specs.declared.Part.{Part}
 
 -- a byte, or 22 where the bytes run out
 unfoldable pub get_u8 : Bytes → Position → Got ℕ
@@ -45,11 +40,6 @@ get_u32 s at = after (get_any s at) (λ v next. need (ltb v (2 ^ 32)) VarintOver
 unfoldable pub get_count : Bytes → Position → (limit : ℕ) → Got ℕ
 get_count s at limit = after (get_varint s at) (λ n next. need (leb n limit && leb n (length s - next)) TooLarge (got n next))
 
--- a part of the bytes: where it starts and how long it is
-pub record Part : Type 0 where
-  pub start : Position
-  pub len : ℕ
-
 -- the bytes of a part
 unfoldable pub part_of : Bytes → Part → Bytes
 part_of s p = take p.len (drop p.start s)
@@ -59,18 +49,5 @@ unfoldable pub get_bytes : Bytes → Position → (limit : ℕ) → Got Part
 get_bytes s at limit = after (get_count s at limit) (λ n next. got (record { start = next; len = n }) (next + n))
 
 -- nothing may remain: 25
-unfoldable pub finish : Bytes → Position → Answer Position
-finish s at = unless (leb (length s) at) TrailingBytes (done at)
-
--- what the code's answers stand for
-abbrev pub got_number : NumberRead → Got ℕ
-got_number (number.Value value next) = got value next
-got_number (number.Refused r) = bad r
-
-abbrev pub got_part : PartRead → Got Part
-got_part (part.Part start len next) = got (record { start = start; len = len }) next
-got_part (part.Refused r) = bad r
-
-abbrev pub finished_at : Position → Finished → Answer Position
-finished_at at finished.Done = done at
-finished_at at (finished.Refused r) = refused r
+unfoldable pub finish : Bytes → Position → Answer Unit
+finish s at = unless (leb (length s) at) TrailingBytes (done nothing)

@@ -7,7 +7,8 @@ use Rattle.error.specs.declared.Refusal.TheVariants.{Truncated, VarintOverflow, 
 use Rattle.error.specs.Answer.{done, got, bad}
 use Rattle.codec.specs.Leb128.{groups, has_last, value_of, shortest}
 use Rattle.codec.specs.Reading.{get_varint, get_u32, part_of}
-use Rattle.codec.specs.Envelopes.{max_frame, max_signature, envelope, Envelope, read_envelope}
+use Rattle.codec.specs.Envelopes.{max_frame, max_signature, envelope, read_envelope}
+use Rattle.codec.specs.declared.Envelope.{Envelope}
 
 -- the bytes of a 64-bit number, anywhere in a list, are read as this number, and the position past them is given
 abbrev pub VarintBack : Type 0
@@ -65,9 +66,9 @@ U32IsVarint = (s : Bytes) (at : Position) (v : ℕ) (n : Position) → get_u32 s
 abbrev pub EnvelopeBack : Type 0
 EnvelopeBack =
     (sender : ℕ) (body sig : Bytes) → sender < 2 ^ 64 → length body ≤ max_frame → length sig ≤ max_signature
-    → (e : Envelope) × (read_envelope (envelope sender body sig) ≡ done e) × (e.sender ≡ sender)
+    → (e : Envelope) × (read_envelope (envelope sender body sig) ≡ done e) × (e.sender.0 ≡ sender)
     × (part_of (envelope sender body sig) e.body ≡ body) × (part_of (envelope sender body sig) e.sig ≡ sig)
 
 -- 02: "envelopes .. change with it": what reads as an envelope is what is written of its sender, body and signature
 abbrev pub EnvelopeWritten : Type 0
-EnvelopeWritten = (s : Bytes) (e : Envelope) → AllBytes s → read_envelope s ≡ done e → s ≡ envelope e.sender (part_of s e.body) (part_of s e.sig)
+EnvelopeWritten = (s : Bytes) (e : Envelope) → AllBytes s → read_envelope s ≡ done e → s ≡ envelope e.sender.0 (part_of s e.body) (part_of s e.sig)

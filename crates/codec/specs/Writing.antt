@@ -4,10 +4,9 @@ use Rattle.words.specs.Names.{Bytes, Area, Position}
 use Rattle.words.specs.Choice.{pick}
 use Rattle.words.specs.Areas.{put_at}
 use Rattle.error.specs.declared.Refusal.TheVariants.{ShortArea}
-use Rattle.error.specs.Answer.{Answer, done, refused, Ends, ends}
+use Rattle.error.specs.Answer.{done, refused, ends}
+use Rattle.error.specs.declared.Ends.{Ends}
 use Rattle.codec.specs.Leb128.{shortest}
-use Rattle.codec.specs.declared.Written.{Written}
-use Rattle.codec.specs.declared.Written.TheVariants.{Next, Refused}
 
 -- bytes, length first
 unfoldable pub sized : Bytes → Bytes
@@ -17,8 +16,3 @@ sized bytes = shortest (length bytes) ++ bytes
 unfoldable pub write_call : Area → Position → Bytes → Ends Position Area
 write_call out at vs =
     pick (leb (at + length vs) (length out)) (ends (done (at + length vs)) (put_at out at vs)) (ends (refused ShortArea) out)
-
--- what the code's answer stands for
-abbrev pub written_of : Written → Answer Position
-written_of (Next n) = done n
-written_of (Refused r) = refused r

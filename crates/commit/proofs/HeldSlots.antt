@@ -77,7 +77,6 @@ module _ (s : List ℕ) where
 -- ---- gathering
 -- the held references of the first p entries have their slots at the front, the others theirs where they were
 pub record Gathering (held₀ held s : List ℕ) (n kept p : ℕ) : Type 0 where
-  pub upto : p ≤ n
   pub same : length held ≡ length held₀
   pub counts : kept ≡ held_before s p
   pub few : kept ≤ p
@@ -88,7 +87,6 @@ pub record Gathering (held₀ held s : List ℕ) (n kept p : ℕ) : Type 0 where
 pub gather_start : (held s : List ℕ) (n : ℕ) → Gathering held held s n 0 0
 unfolding held_before
 gather_start held s n = record {
-  upto = omega arith;
   same = refl;
   counts = refl;
   few = omega arith;
@@ -98,14 +96,13 @@ gather_start held s n = record {
 }
 
 module _ (held₀ held s : List ℕ) (n kept p k : ℕ) (e : k ≡ get64 s (16 * p)) (l : p < n) (g : Gathering held₀ held s n kept p) where
-  pub gather_from : SlotsRise s n → k < 64 → kept ≤ k
+  gather_from : SlotsRise s n → k < 64 → kept ≤ k
   gather_from r h = omega (arith, g.counts, before_ref_lem s n p r l (omega arith))
 
   pub gather_held : (t : List ℕ) → SlotsRise s n → k < 64 → SlotSet held t kept (slot_at held (704 * k)) → Gathering held₀ t s n (kept + 1) (p + 1)
   gather_held t r h w =
       let o : ref_at s p < 64 = omega arith in
       record {
-        upto = omega arith;
         same = w.same ∙ g.same;
         counts = omega (arith, g.counts, before_held s p o);
         few = omega (arith, g.few);
@@ -123,7 +120,6 @@ module _ (held₀ held s : List ℕ) (n kept p k : ℕ) (e : k ≡ get64 s (16 *
   pub gather_batch : 64 ≤ k → Gathering held₀ held s n kept (p + 1)
   gather_batch h =
       record {
-        upto = omega arith;
         same = g.same;
         counts = g.counts ∙ sym (before_batch s p (omega arith));
         few = omega (arith, g.few);
@@ -137,9 +133,8 @@ module _ (held₀ held s : List ℕ) (n kept p k : ℕ) (e : k ≡ get64 s (16 *
         behind = g.behind;
       }
 
-pub gather_end : (held₀ held s : List ℕ) (n kept p : ℕ) → n ≤ p → Gathering held₀ held s n kept p → Gathered held₀ held s n kept
-gather_end held₀ held s n kept p l g =
-    let e : p ≡ n = omega (arith, g.upto) in
+pub gather_end : (held₀ held s : List ℕ) (n kept p : ℕ) → p ≡ n → Gathering held₀ held s n kept p → Gathered held₀ held s n kept
+gather_end held₀ held s n kept p e g =
     record {
       same = g.same;
       counts = g.counts ∙ ap (held_before s) e;

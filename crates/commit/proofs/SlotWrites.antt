@@ -1,7 +1,6 @@
 -- One slot of an area written: it is there, and every other slot and what lies behind them is as it was.
 use Prim.Native.Nat.{ℕ, ◌+◌, ◌-◌, ◌*◌, ◌≤◌, ◌<◌}
 use mathlib.Core.Path.{◌≡◌, refl, sym, ◌∙◌, ap}
-use mathlib.Core.Bool.{true}
 use mathlib.Core.Logic.{inl, inr}
 use mathlib.Core.List.{List, ◌++◌, append_assoc}
 use native.Mathlib.Omega.{arith}
@@ -14,15 +13,12 @@ use Rattle.words.proofs.Puts.{length_put}
 use Rattle.row.specs.Slots.{slot_at, encode_held}
 use Rattle.row.specs.Reading.{read_row}
 use Rattle.row.specs.Calls.{ReadsRow}
-use Rattle.row.specs.Values.{OpFits, row_read_by}
 use Rattle.row.specs.declared.RowRead.{RowRead}
-use Rattle.row.specs.declared.Held.{Held}
-use Rattle.row.specs.declared.Reading.{Reading}
-use Rattle.row.specs.declared.Reading.TheVariants as ended
 use Rattle.row.proofs.Operations.{slot_put, fits_length}
-use Rattle.working.specs.Inside.References.{is_read, arrived_by}
-use Rattle.commit.specs.Inside.HeldSlots.{SlotSet}
-use Rattle.words.specs.Inside.Moves.{moved_up, moved_down}
+use Rattle.error.specs.Answer.{got}
+use Rattle.working.specs.Inside.References.{arrived_by}
+use Rattle.commit.specs.Inside.HeldSlots.{SlotSet, arriving}
+use Rattle.std.specs.List.{copy_within}
 use Rattle.row.specs.Inside.SlotParts.{held_of}
 
 -- ---- bytes put into an area
@@ -91,43 +87,20 @@ module _ (s t : List ℕ) (from to : ℕ) (f : from < 64) (o : to < 64) (k : 450
   slot_put_in : t ≡ put_at s (704 * to) (slot_at s (704 * from)) → SlotSet s t to (slot_at s (704 * from))
   slot_put_in e = rw e (slot_set s (slot_at s (704 * from)) to o k size)
 
-  pub slot_moved_down : to ≤ from → t ≡ moved_down (704 * from) (704 * from + 704) (704 * (from - to)) s → SlotSet s t to (slot_at s (704 * from))
-  unfolding moved_down
-  slot_moved_down l e =
-      let a : 704 * from - 704 * (from - to) ≡ 704 * to = omega arith in
+  pub slot_copied : t ≡ copy_within s (704 * from) (704 * from + 704) (704 * to) → SlotSet s t to (slot_at s (704 * from))
+  unfolding put_at
+  slot_copied e =
       let b : 704 * from + 704 - 704 * from ≡ 704 = omega arith in
-      let c : 704 * from + 704 - 704 * (from - to) ≡ 704 * to + length (slot_at s (704 * from)) = omega (arith, size) in
-      slot_put_in (e ∙ rw (a, b, c) (sym (parted s (slot_at s (704 * from)) (704 * to) (omega (arith, size)))))
-
-  pub slot_moved_up : from ≤ to → t ≡ moved_up (704 * from) (704 * from + 704) (704 * (to - from)) s → SlotSet s t to (slot_at s (704 * from))
-  unfolding moved_up
-  slot_moved_up l e =
-      let a : 704 * from + 704 * (to - from) ≡ 704 * to = omega arith in
-      let b : 704 * from + 704 - 704 * from ≡ 704 = omega arith in
-      let c : 704 * from + 704 + 704 * (to - from) ≡ 704 * to + length (slot_at s (704 * from)) = omega (arith, size) in
-      slot_put_in (e ∙ rw (a, b, c) (sym (parted s (slot_at s (704 * from)) (704 * to) (omega (arith, size)))))
+      slot_put_in (e ∙ rw (b, size))
 
 -- ---- a row of the batch
-abbrev arriving : RowRead → ℕ → Held
-arriving r time = record { op = r.op; arrived_ms = time; outcome = r.outcome; detail = r.detail }
-
-module _ (batch : List ℕ) (at : ℕ) (r : RowRead) (e : ReadsRow batch at r) (t : is_read (read_row batch at) ≡ true) where
-  was_read : (d : Reading) → is_read (row_read_by d batch r) ≡ true → (n : ℕ) × (d ≡ ended.Read n)
-  was_read (ended.Read n) h = (n, refl)
-  was_read (ended.Refused f) h = absurd (let z : ◌≡◌ {A = ℕ} 0 1 = cc in omega arith)
-
-  reading_is : (n : ℕ) × (r.reading ≡ ended.Read n)
-  reading_is = was_read r.reading (rw e.is t)
-
-  pub row_fits : OpFits batch r.op
-  row_fits = e.fits reading_is.0 reading_is.1
-
-  row_arrives : (time : ℕ) → held_of batch (arriving r time) ≡ arrived_by time (read_row batch at)
+module _ (batch : List ℕ) (at : ℕ) (r : RowRead) (next : ℕ) (e : ReadsRow batch at (got r next)) where
+  pub row_arrives : (time : ℕ) → held_of batch (arriving r time) ≡ arrived_by time (read_row batch at)
   unfolding held_of
-  row_arrives time = rw (← e.is, reading_is.1)
+  row_arrives time = rw (← e.is)
 
   pub slot_written : (s u w : List ℕ) (p time : ℕ) → p < 64 → 45056 ≤ length s → u ≡ s → w ≡ encode_held (held_of batch (arriving r time))
       → SlotSet s (put_mid (704 * p) (704 * p + 704 - 704 * p) u w) p (encode_held (arrived_by time (read_row batch at)))
   slot_written s u w p time h k a b =
-      rw (slot_put u w s batch (arriving r time) (704 * p) a b row_fits, ← row_arrives time)
-      (slot_set s (encode_held (held_of batch (arriving r time))) p h k (fits_length batch (arriving r time) row_fits))
+      rw (slot_put u w s batch (arriving r time) (704 * p) a b (e.fits r next refl), ← row_arrives time)
+      (slot_set s (encode_held (held_of batch (arriving r time))) p h k (fits_length batch (arriving r time) (e.fits r next refl)))

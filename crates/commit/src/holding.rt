@@ -4,35 +4,34 @@ ghost use Rattle.std.specs.Prelude.{◌≡◌, true, ◌*◌, ◌≤◌, ◌<◌
 ghost use Rattle.row.specs.Slots.{slot_at, encode_held};
 ghost use Rattle.row.specs.Reading.{read_row};
 ghost use Rattle.working.specs.Inside.References.{is_read, arrived_by};
-ghost use Rattle.commit.specs.Inside.HeldSlots.{SlotSet, SlotsRise, Gathered, BatchRefs, Spread, held_before};
+ghost use Rattle.commit.specs.Inside.HeldSlots.{SlotSet, arriving, SlotsRise, Gathered, BatchRefs, Spread, held_before};
 
-use row::Held;
 use row::raw::write_slot;
 use row::reader::read_row;
-use words::raw::{get_word, move_down, move_up};
+use row::{Held, RowRead};
+use words::raw::get_word;
 
-// Copies slot `from` down to slot `to`.
-fn slot_down(held: &mut [u8], from: usize, to: usize)
-    requires { (to ≤ from) × (from < 64) × (45056 ≤ length held.old) }
+// Copies slot `from` to slot `to`.
+fn copy_slot(held: &mut [u8], from: usize, to: usize)
+    requires { (from < 64) × (to < 64) × (45056 ≤ length held.old) }
     ensures { SlotSet held.old held.new to (slot_at held.old (704 * from)) }
 {
-    if to == from {
-        return;
+    if to != from {
+        let at = 704 * from;
+        held.copy_within(at..at + 704, 704 * to);
     }
-    let at = 704 * from;
-    move_down(held, at, at + 704, 704 * (from - to));
 }
 
-// Copies slot `from` up to slot `to`.
-fn slot_up(held: &mut [u8], from: usize, to: usize)
-    requires { (from ≤ to) × (to < 64) × (45056 ≤ length held.old) }
-    ensures { SlotSet held.old held.new to (slot_at held.old (704 * from)) }
+// A row of the batch as it waits, which arrived at `time`.
+pub(crate) fn arriving(row: RowRead, time: u64) -> Held
+    ensures { result ≡ arriving row time }
 {
-    if to == from {
-        return;
+    Held {
+        op: row.op,
+        arrived_ms: time,
+        outcome: u64::from(row.outcome),
+        detail: u64::from(row.detail),
     }
-    let at = 704 * from;
-    move_up(held, at, at + 704, 704 * (to - from));
 }
 
 // Writes the row at `at` of the batch, which arrived at `time`, to slot p.
@@ -40,17 +39,9 @@ fn slot_from_batch(held: &mut [u8], p: usize, batch: &[u8], at: usize, time: u64
     requires { (is_read (read_row batch.now at) ≡ true) × (p < 64) × (45056 ≤ length held.old) }
     ensures { SlotSet held.old held.new p (encode_held (arrived_by time (read_row batch.now at))) }
 {
-    let row = read_row(batch, at);
-    let op = row.op;
-    let h = Held {
-        op: op,
-        arrived_ms: time,
-        outcome: row.outcome as u64,
-        detail: row.detail as u64,
-    };
+    let (row, _) = read_row(batch, at).unwrap();
     let from = 704 * p;
-    let end = from + 704;
-    write_slot(&mut held[from..end], h, batch);
+    write_slot(&mut held[from..from + 704], arriving(row, time), batch);
 }
 
 // The slots of the working rows that were held, moved down to the front; how many they are.
@@ -59,14 +50,12 @@ pub(crate) fn gather(held: &mut [u8], scratch: &[u8], n: usize) -> usize
     ensures { Gathered held.old held.new scratch.now n result }
 {
     let mut kept: usize = 0;
-    let mut p: usize = 0;
-    while p < n {
+    for p in 0..n {
         let k = get_word(scratch, 16 * p) as usize;
         if k < 64 {
-            slot_down(held, k, kept);
+            copy_slot(held, k, kept);
             kept += 1;
         }
-        p += 1;
     }
     kept
 }
@@ -84,15 +73,13 @@ pub(crate) fn spread(
     ensures { Spread held.old held.new batch.now scratch.now n time }
 {
     let mut left = kept;
-    let mut p = n;
-    while 0 < p {
-        p -= 1;
+    for p in (0..n).rev() {
         let k = get_word(scratch, 16 * p) as usize;
         if k < 64 {
             left -= 1;
-            slot_up(held, left, p);
-            continue;
+            copy_slot(held, left, p);
+        } else {
+            slot_from_batch(held, p, batch, k - 64, time);
         }
-        slot_from_batch(held, p, batch, k - 64, time);
     }
 }

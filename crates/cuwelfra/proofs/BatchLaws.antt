@@ -13,7 +13,8 @@ use Rattle.merging.specs.Delta.{delta_call}
 use Rattle.batch.specs.declared.MergeLimits.{MergeLimits}
 use Rattle.batch.specs.Settings.{limits_of}
 use Rattle.merge.specs.Reports.{joined_of}
-use Rattle.merge.specs.declared.Joined.{Joined}
+use Rattle.merge.specs.declared.Merged.{Merged}
+use Rattle.error.specs.declared.Ends.{Ends}
 use Rattle.cuwelfra.specs.declared.batches.DeltaTold.{DeltaTold}
 use Rattle.cuwelfra.specs.Exports.{exported}
 use Rattle.cuwelfra.specs.Batches.{limits_by, delta_told}
@@ -29,7 +30,7 @@ limits_are m = refl
 abbrev brought : Limits → ℕ → (batch scratch output : List ℕ) → BatchCall
 brought l time batch scratch output = record { limits = l; time = time; batch = batch; scratch = scratch; output = output }
 
-pub delta_exported : (a : Areas) (m : MergeLimits) (j k : HybridClock) (time : ℕ) (batch scratch output : List ℕ) (l : Lent) (x : Joined) (r : DeltaTold)
+pub delta_exported : (a : Areas) (m : MergeLimits) (j k : HybridClock) (time : ℕ) (batch scratch output : List ℕ) (l : Lent) (x : Ends Merged HybridClock) (r : DeltaTold)
     → j ≡ k → joined_of x l ≡ delta_call a j (brought (limits_of m) time batch scratch output) → ((l : Lent) → (r, l) ≡ delta_told (joined_of x l))
     → (r, l)
     ≡ delta_told

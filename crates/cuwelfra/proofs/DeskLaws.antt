@@ -1,22 +1,30 @@
 -- The exported answer to preparing, from that of the call inside.
-use mathlib.Core.Path.{◌≡◌, ◌∙◌, ap}
+use mathlib.Core.Path.{◌≡◌, sym, ◌∙◌, ap}
+use lib.ListN.{replicate}
 use mathlib.Core.List.{List}
 use Prim.Native.Nat.{ℕ}
 use Rattle.error.specs.declared.Told.{Told}
-use Rattle.error.specs.Answer.{Answer, done, refused, told_by}
+use Rattle.std.specs.declared.result.Result.TheVariants.{Ok, Err}
+use Rattle.error.specs.Answer.{Answer, done, refused, accepted, ends}
+use Rattle.error.specs.declared.Ends.{Ends}
+use Rattle.error.specs.declared.Refusal.{Refusal}
+use Rattle.error.specs.Numbers.{told_of}
+use Rattle.words.specs.Areas.{pad}
+use Rattle.replicated_log.proofs.Calls.Changes.{clashing}
+use Rattle.merging.proofs.Traces.{done_same}
 use Rattle.clock.specs.declared.hybrid.HybridClock.{HybridClock}
-use Rattle.clock.specs.Vector.{authors_of, numbers_of, outcome_of}
+use Rattle.clock.specs.Vector.{authors_of, numbers_of}
 use Rattle.row.specs.Rows.{Row}
 use Rattle.row.specs.Values.{deps_by}
 use Rattle.merging.specs.Desk.{PrepareCall, prepare_call}
 use Rattle.engine.specs.declared.Prepared.{Prepared}
-use Rattle.engine.specs.Answers.{prepared_by, prepared}
+use Rattle.engine.specs.Answers.{prepared_row, prepared_by, prepared}
 use Rattle.cuwelfra.specs.Desks.{row_told, prepared_told}
 use Rattle.cuwelfra.specs.declared.desk.PreparedTold.{PreparedTold}
 
--- the struct that the code makes of an answer
-abbrev told_with : Told → Prepared → PreparedTold
-told_with told p =
+-- the struct that the code makes of a row
+abbrev pub told_with : Told → Prepared → HybridClock → PreparedTold
+told_with told p hybrid =
     record {
       told = told;
       wall_time = p.op.timestamp.wall_time;
@@ -27,21 +35,41 @@ told_with told p =
       dep_authors = p.op.deps.authors;
       dep_numbers = p.op.deps.numbers;
       len = p.len;
-      last_wall = p.clock.last_wall;
-      last_counter = p.clock.last_counter;
+      last_wall = hybrid.last_wall;
+      last_counter = hybrid.last_counter;
     }
 
-module _ (p : Prepared) (told : Told) (e : told ≡ told_by (outcome_of p.outcome)) where
-  pub row_told_lem : (answer : Answer Row) (hybrid : HybridClock) → p ≡ prepared_by answer hybrid → told_with told p ≡ row_told answer hybrid
-  unfolding deps_by authors_of numbers_of
-  row_told_lem (done r) hybrid f = ap (λ (t : Told). told_with t p) e ∙ ap (λ (q : Prepared). told_with (told_by (outcome_of q.outcome)) q) f
-  row_told_lem (refused k) hybrid f = ap (λ (t : Told). told_with t p) e ∙ ap (λ (q : Prepared). told_with (told_by (outcome_of q.outcome)) q) f
+-- and of a refusal
+abbrev pub none_with : Told → HybridClock → PreparedTold
+none_with told hybrid =
+    record {
+      told = told;
+      wall_time = 0;
+      logical_counter = 0;
+      actor_id = 0;
+      sequence = 0;
+      deps = 0;
+      dep_authors = replicate 16 0;
+      dep_numbers = replicate 16 0;
+      len = 0;
+      last_wall = hybrid.last_wall;
+      last_counter = hybrid.last_counter;
+    }
 
--- from the answer and the output of the call inside
-pub prepare_told : (t : PreparedTold) (p : Prepared) (o : List ℕ) (c : PrepareCall)
-    → ((answer : Answer Row) (hybrid : HybridClock) → p ≡ prepared_by answer hybrid → t ≡ row_told answer hybrid) → (p, o) ≡ prepared (prepare_call c)
-    → (t, o) ≡ prepared_told (prepare_call c)
-prepare_told t p o c f e =
-    let q : p ≡ prepared_by (prepare_call c).answer (prepare_call c).left.hybrid = ap (λ (x : Prepared × List ℕ). x.0) e in
-    let r : o ≡ (prepare_call c).left.output = ap (λ (x : Prepared × List ℕ). x.1) e in
-    λ i. (f (prepare_call c).answer (prepare_call c).left.hybrid q i, r i)
+module _ (e : Ends Prepared HybridClock) (told : Told) where
+  pub row_told_lem : (p : Prepared) → e.answer ≡ done p → told ≡ accepted
+      → (answer : Answer Row) (hybrid : HybridClock) → e ≡ ends (prepared_by answer) hybrid → told_with told p e.left ≡ row_told answer hybrid
+  unfolding deps_by authors_of numbers_of
+  row_told_lem p f q (Ok r) hybrid d =
+      let n : p ≡ prepared_row r = done_same (sym f ∙ ap (λ (x : Ends Prepared HybridClock). x.answer) d) in
+      λ i. told_with (q i) (n i) (d i).left
+  row_told_lem p f q (Err k) hybrid d = absurd (clashing p k (sym f ∙ ap (λ (x : Ends Prepared HybridClock). x.answer) d))
+
+  pub none_told : (k : Refusal) → e.answer ≡ refused k → told ≡ told_of k
+      → (answer : Answer Row) (hybrid : HybridClock) → e ≡ ends (prepared_by answer) hybrid → none_with told e.left ≡ row_told answer hybrid
+  unfolding pad
+  none_told k f q (Ok r) hybrid d = absurd (clashing (prepared_row r) k (sym (sym f ∙ ap (λ (x : Ends Prepared HybridClock). x.answer) d)))
+  none_told k f q (Err g) hybrid d =
+      let s : refused {A = Prepared} k ≡ refused g = sym f ∙ ap (λ (x : Ends Prepared HybridClock). x.answer) d in
+      let z : k ≡ g = cc in
+      λ i. none_with ((q ∙ ap told_of z) i) (d i).left

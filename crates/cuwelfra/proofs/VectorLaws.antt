@@ -10,35 +10,14 @@ use Rattle.error.specs.declared.Refusal.{Refusal}
 use Rattle.error.specs.declared.Refusal.TheVariants.{ShortArea}
 use Rattle.error.specs.declared.Told.{Told}
 use Rattle.error.specs.Numbers.{told_of}
-use Rattle.error.specs.Answer.{done, refused, accepted, told_by, nothing, Ends, ends}
+use Rattle.error.specs.Answer.{Answer, done, refused, accepted, told_by, nothing, ends}
+use Rattle.error.specs.declared.Ends.{Ends}
 use Rattle.clock.specs.declared.vector.VectorClock.{VectorClock}
-use Rattle.clock.specs.declared.vector.Changed.{Changed}
-use Rattle.clock.specs.declared.vector.Incremented.{Incremented}
-use Rattle.clock.specs.declared.vector.Outcome.TheVariants as outcome
-use Rattle.clock.specs.declared.vector.NumberAnswer.TheVariants as number
-use Rattle.clock.specs.Vector.{clock_of, changed_of, incremented_of}
+use Rattle.clock.specs.Vector.{clock_of}
 use Rattle.clock.specs.Area.{clock_bytes}
 use Rattle.cuwelfra.specs.declared.vector.ClockTold.{ClockTold}
 use Rattle.cuwelfra.specs.Vectors.{on_area, long, count_told}
-use Rattle.cuwelfra.specs.Exports.{exported, written_back}
-
--- ---- a change is written back, a refused one is left
-
-pub kept_done : (s t : List ℕ) (r : Changed) (told : Told) → r.outcome ≡ outcome.Done → t ≡ put_at s 0 (clock_bytes r.clock) → told ≡ accepted
-    → (told, t) ≡ exported told_by (written_back clock_bytes s (changed_of r))
-kept_done s t r told e p q = rw e (λ i. (q i, p i))
-
-pub kept_refused : (s : List ℕ) (r : Changed) (f : Refusal) (told : Told) → r.outcome ≡ outcome.Refused f → told ≡ told_of f
-    → (told, s) ≡ exported told_by (written_back clock_bytes s (changed_of r))
-kept_refused s r f told e q = rw e (λ i. (q i, s))
-
-pub number_done : (s t : List ℕ) (r : Incremented) (n : ℕ) (told : Told) → r.answer ≡ number.Number n → t ≡ put_at s 0 (clock_bytes r.clock) → told ≡ accepted
-    → (record { told = told; number = n }, t) ≡ exported count_told (written_back clock_bytes s (incremented_of r))
-number_done s t r n told e p q = rw e (λ i. (record { told = q i; number = n }, p i))
-
-pub number_refused : (s : List ℕ) (r : Incremented) (f : Refusal) (told : Told) → r.answer ≡ number.Refused f → told ≡ told_of f
-    → (record { told = told; number = 0 }, s) ≡ exported count_told (written_back clock_bytes s (incremented_of r))
-number_refused s r f told e q = rw e (λ i. (record { told = q i; number = 0 }, s))
+use Rattle.cuwelfra.specs.Exports.{exported, if_done}
 
 -- ---- short and long areas
 
@@ -65,14 +44,10 @@ pub short_number : (s : List ℕ) (b : Bool) (c : Ends ℕ VectorClock) (r : Clo
     → (r, s) ≡ exported count_told (on_area b s c)
 short_number s b c r e q = rw e (λ i. (q i, s))
 
--- a long one: the call on the clock in it
-pub long_kept : (s t : List ℕ) (b : Bool) (c d : Ends Unit VectorClock) (told : Told) → b ≡ true → d ≡ c
-    → (told, t) ≡ exported told_by (written_back clock_bytes s d) → (told, t) ≡ exported told_by (on_area b s c)
-long_kept s t b c d told e f k = rw (e, ← f) k
-
-pub long_number : (s t : List ℕ) (b : Bool) (c d : Ends ℕ VectorClock) (r : ClockTold) → b ≡ true → d ≡ c
-    → (r, t) ≡ exported count_told (written_back clock_bytes s d) → (r, t) ≡ exported count_told (on_area b s c)
-long_number s t b c d r e f k = rw (e, ← f) k
+-- a long one: the call on the clock in it, written back where it was carried out
+pub long_kept : {A T : Type 0} (told : Answer A → T) (s t : List ℕ) (b : Bool) (c : Ends A VectorClock) (x : Answer A) (own : VectorClock) (r : T) → b ≡ true
+    → ends x own ≡ c → t ≡ if_done x (put_at s 0 (clock_bytes own)) s → r ≡ told x → (r, t) ≡ exported told (on_area b s c)
+long_kept told s t b c x own r e f p q = rw (e, ← f) (λ i. (q i, p i))
 
 -- an empty clock written
 pub new_kept : (s t : List ℕ) (told : Told) (d : VectorClock) → long s ≡ true → d ≡ clock_of [] → t ≡ put_at s 0 (clock_bytes d) → told ≡ accepted

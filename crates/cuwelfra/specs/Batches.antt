@@ -2,7 +2,9 @@
 use Rattle.std.specs.Prelude.{ℕ}
 use Rattle.words.specs.Names.{Time}
 use Rattle.error.specs.Numbers.{told_of}
-use Rattle.error.specs.Answer.{Answer, done, refused, accepted, Ends}
+use Rattle.std.specs.declared.result.Result.TheVariants.{Ok, Err}
+use Rattle.error.specs.Answer.{Answer, done, refused, accepted}
+use Rattle.error.specs.declared.Ends.{Ends}
 use Rattle.clock.specs.declared.hybrid.HybridClock.{HybridClock}
 use Rattle.merging.specs.Batch.{Limits}
 use Rattle.merging.specs.Calls.{Lent}
@@ -24,7 +26,7 @@ limits_by pending per_actor bytes age drift deps payload =
 
 -- the counts, or the refusal's number and values; and the hybrid clock
 abbrev pub joined_told : Answer DeltaReport → HybridClock → DeltaTold
-joined_told (done x) hybrid =
+joined_told (Ok x) hybrid =
     record {
       told = accepted;
       applied = x.report.applied;
@@ -38,7 +40,7 @@ joined_told (done x) hybrid =
       last_wall = hybrid.last_wall;
       last_counter = hybrid.last_counter;
     }
-joined_told (refused r) hybrid =
+joined_told (Err r) hybrid =
     record {
       told = told_of r;
       applied = 0;

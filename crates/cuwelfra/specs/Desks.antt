@@ -4,7 +4,9 @@ use Rattle.words.specs.Names.{Area}
 use Rattle.words.specs.Sizes.{most_deps}
 use Rattle.words.specs.Areas.{pad}
 use Rattle.error.specs.Numbers.{told_of}
-use Rattle.error.specs.Answer.{Answer, done, refused, accepted, Ends}
+use Rattle.std.specs.declared.result.Result.TheVariants.{Ok, Err}
+use Rattle.error.specs.Answer.{Answer, done, refused, accepted}
+use Rattle.error.specs.declared.Ends.{Ends}
 use Rattle.clock.specs.declared.hybrid.HybridClock.{HybridClock}
 use Rattle.clock.specs.Vector.{authors_of, numbers_of}
 use Rattle.row.specs.Rows.{Row}
@@ -14,7 +16,7 @@ use Rattle.cuwelfra.specs.declared.desk.PreparedTold.{PreparedTold}
 
 -- stamp, sequence, dependencies (places behind their count are zero), how many bytes are to be signed, and the hybrid clock
 abbrev pub row_told : Answer Row → HybridClock → PreparedTold
-row_told (done r) hybrid =
+row_told (Ok r) hybrid =
     record {
       told = accepted;
       wall_time = r.stamp.wall_time;
@@ -28,7 +30,7 @@ row_told (done r) hybrid =
       last_wall = hybrid.last_wall;
       last_counter = hybrid.last_counter;
     }
-row_told (refused f) hybrid =
+row_told (Err f) hybrid =
     record {
       told = told_of f;
       wall_time = 0;

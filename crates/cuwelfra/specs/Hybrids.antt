@@ -1,10 +1,12 @@
 -- The answers of the exported hybrid clock calls as numbers; in a refusal the clock comes back as it was.
 use Rattle.std.specs.Prelude.{ℕ}
 use Rattle.words.specs.Names.{Author, Time}
-use Rattle.error.specs.Answer.{Answer, done, refused, told_by, Ends}
+use Rattle.std.specs.declared.result.Result.TheVariants.{Ok, Err}
+use Rattle.error.specs.Answer.{Answer, done, refused, told_by}
+use Rattle.error.specs.declared.Ends.{Ends}
 use Rattle.clock.specs.declared.stamp.Timestamp.{Timestamp}
-use Rattle.clock.specs.declared.stamp.Ordering.{Ordering}
-use Rattle.clock.specs.declared.stamp.Ordering.TheVariants.{Less, Equal, Greater}
+use Rattle.std.specs.declared.cmp.Ordering.{Ordering}
+use Rattle.std.specs.declared.cmp.Ordering.TheVariants.{Less, Equal, Greater}
 use Rattle.clock.specs.declared.hybrid.HybridClock.{HybridClock}
 use Rattle.cuwelfra.specs.declared.hybrid.HybridTold.{HybridTold}
 use Rattle.cuwelfra.specs.declared.hybrid.IssuedTold.{IssuedTold}
@@ -30,16 +32,16 @@ hybrid_told c =
 
 -- the stamp, or zeros
 abbrev pub wall_of : Answer Timestamp → ℕ
-wall_of (done t) = t.wall_time
-wall_of (refused r) = 0
+wall_of (Ok t) = t.wall_time
+wall_of (Err r) = 0
 
 abbrev pub counter_of : Answer Timestamp → ℕ
-counter_of (done t) = t.logical_counter
-counter_of (refused r) = 0
+counter_of (Ok t) = t.logical_counter
+counter_of (Err r) = 0
 
 abbrev pub actor_of : Answer Timestamp → ℕ
-actor_of (done t) = t.actor_id.0
-actor_of (refused r) = 0
+actor_of (Ok t) = t.actor_id.0
+actor_of (Err r) = 0
 
 abbrev pub issued_told : Ends Timestamp HybridClock → IssuedTold
 issued_told m =

@@ -2,6 +2,7 @@
 use Rattle.std.specs.Prelude.{ℕ, length}
 use Rattle.words.specs.Names.{Bytes, Area}
 use Rattle.error.specs.Numbers.{told_of}
+use Rattle.std.specs.declared.result.Result.TheVariants.{Ok, Err}
 use Rattle.error.specs.Answer.{Answer, done, refused, accepted}
 use Rattle.message.specs.Messages.{Message, hello, delta, ack, ping, pong}
 use Rattle.message.specs.Reading.{Frame}
@@ -26,14 +27,14 @@ number_of (ping n) = n
 number_of (pong n) = n
 
 abbrev pub message_told : Answer Message → MessageTold
-message_told (done m) = record { told = accepted; tag = tag_of m; number = number_of m }
-message_told (refused r) = record { told = told_of r; tag = 0; number = 0 }
+message_told (Ok m) = record { told = accepted; tag = tag_of m; number = number_of m }
+message_told (Err r) = record { told = told_of r; tag = 0; number = 0 }
 
 abbrev pub frame_told : Answer Frame → FrameTold
-frame_told (done f) =
+frame_told (Ok f) =
     record {
       told = accepted;
-      sender = f.envelope.sender;
+      sender = f.envelope.sender.0;
       body_at = f.envelope.body.start;
       body_len = f.envelope.body.len;
       sig_at = f.envelope.sig.start;
@@ -41,7 +42,7 @@ frame_told (done f) =
       tag = tag_of f.message;
       number = number_of f.message;
     }
-frame_told (refused r) =
+frame_told (Err r) =
     record { told = told_of r; sender = 0; body_at = 0; body_len = 0; sig_at = 0; sig_len = 0; tag = 0; number = 0 }
 
 -- how reading a message ends: the answer, the clock area, the rows' area

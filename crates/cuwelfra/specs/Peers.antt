@@ -6,7 +6,8 @@ use Rattle.words.specs.Sizes.{peer_size}
 use Rattle.words.specs.Choice.{pick}
 use Rattle.words.specs.Areas.{put_at}
 use Rattle.error.specs.declared.Refusal.TheVariants.{ShortArea, UnsoundStore}
-use Rattle.error.specs.Answer.{Answer, done, refused, and_then, unless, nothing, Ends, ends}
+use Rattle.error.specs.Answer.{Answer, done, refused, and_then, unless, nothing, ends}
+use Rattle.error.specs.declared.Ends.{Ends}
 use Rattle.clock.specs.Area.{clock_at}
 use Rattle.replicated_log.specs.Areas.{Areas}
 use Rattle.peer.specs.declared.Peer.{Peer}

@@ -6,7 +6,9 @@ use Rattle.words.specs.Sizes.{clock_size}
 use Rattle.words.specs.Choice.{pick}
 use Rattle.error.specs.declared.Refusal.TheVariants.{ShortArea}
 use Rattle.error.specs.Numbers.{told_of}
-use Rattle.error.specs.Answer.{Answer, done, refused, unless, accepted, nothing, Ends, ends}
+use Rattle.std.specs.declared.result.Result.TheVariants.{Ok, Err}
+use Rattle.error.specs.Answer.{Answer, done, refused, unless, accepted, nothing, ends}
+use Rattle.error.specs.declared.Ends.{Ends}
 use Rattle.clock.specs.declared.vector.VectorClock.{VectorClock}
 use Rattle.clock.specs.declared.vector.CausalOrder.{CausalOrder}
 use Rattle.clock.specs.declared.vector.CausalOrder.TheVariants.{Before, After, Equal, Concurrent}
@@ -46,19 +48,19 @@ compare_area s o = unless (long s && long o) ShortArea (compare_call (clock_at s
 
 -- answers as numbers: a count or a clock's number
 abbrev pub count_told : Answer ℕ → ClockTold
-count_told (done n) = record { told = accepted; number = n }
-count_told (refused r) = record { told = told_of r; number = 0 }
+count_told (Ok n) = record { told = accepted; number = n }
+count_told (Err r) = record { told = told_of r; number = 0 }
 
 -- 1 covers, 0 does not
 abbrev pub cover_told : Answer Bool → ClockTold
-cover_told (done true) = count_told (done 1)
-cover_told (done false) = count_told (done 0)
-cover_told (refused r) = count_told (refused r)
+cover_told (Ok true) = count_told (done 1)
+cover_told (Ok false) = count_told (done 0)
+cover_told (Err r) = count_told (refused r)
 
 -- 0 Before, 1 After, 2 Equal, 3 Concurrent
 abbrev pub order_told : Answer CausalOrder → ClockTold
-order_told (done Before) = count_told (done 0)
-order_told (done After) = count_told (done 1)
-order_told (done Equal) = count_told (done 2)
-order_told (done Concurrent) = count_told (done 3)
-order_told (refused r) = count_told (refused r)
+order_told (Ok Before) = count_told (done 0)
+order_told (Ok After) = count_told (done 1)
+order_told (Ok Equal) = count_told (done 2)
+order_told (Ok Concurrent) = count_told (done 3)
+order_told (Err r) = count_told (refused r)

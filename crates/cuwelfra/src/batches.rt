@@ -33,25 +33,25 @@ pub struct DeltaTold {
 fn delta_told(r: Joined) -> DeltaTold
     ensures { (lent : Lent) → (result, lent) ≡ delta_told (joined_of r lent) }
 {
-    match r {
-        Joined::Report {
-            report,
-            failed,
-            clock,
-        } => DeltaTold {
-            told: crate::bytes::accept(),
-            applied: report.applied,
-            stale: report.stale,
-            rejected: report.rejected,
-            duplicates: report.duplicates,
-            held: report.held,
-            expired: report.expired,
-            dropped: report.dropped,
-            failed_folds: failed,
-            last_wall: clock.last_wall,
-            last_counter: clock.last_counter as u64,
-        },
-        Joined::Refused { refusal, clock } => DeltaTold {
+    let clock = r.left;
+    match r.answer {
+        Ok(merged) => {
+            let report = merged.report;
+            DeltaTold {
+                told: crate::bytes::accept(),
+                applied: report.applied,
+                stale: report.stale,
+                rejected: report.rejected,
+                duplicates: report.duplicates,
+                held: report.held,
+                expired: report.expired,
+                dropped: report.dropped,
+                failed_folds: merged.failed,
+                last_wall: clock.last_wall,
+                last_counter: u64::from(clock.last_counter),
+            }
+        }
+        Err(refusal) => DeltaTold {
             told: error::tell(refusal),
             applied: 0,
             stale: 0,
@@ -62,7 +62,7 @@ fn delta_told(r: Joined) -> DeltaTold
             dropped: 0,
             failed_folds: 0,
             last_wall: clock.last_wall,
-            last_counter: clock.last_counter as u64,
+            last_counter: u64::from(clock.last_counter),
         },
     }
 }
@@ -92,13 +92,13 @@ pub extern "C" fn cuwelfra_apply_delta(
     ensures { (result, record { areas = areas log.new held.new head.new; scratch = scratch.new; output = output.new }) ≡ delta_told (delta_call (areas log.old held.old head.old) (clock_by actor last_wall last_counter clock_max_drift_ms) (record { limits = limits_by max_pending max_pending_per_actor max_pending_bytes max_pending_age_ms max_drift_ms max_deps max_payload; time = time_ms; batch = batch.now; scratch = scratch.old; output = output.old })) }
 {
     let limits = MergeLimits {
-        max_pending: max_pending,
-        max_pending_per_actor: max_pending_per_actor,
-        max_pending_bytes: max_pending_bytes,
-        max_pending_age_ms: max_pending_age_ms,
-        max_drift_ms: max_drift_ms,
-        max_deps: max_deps,
-        max_payload: max_payload,
+        max_pending,
+        max_pending_per_actor,
+        max_pending_bytes,
+        max_pending_age_ms,
+        max_drift_ms,
+        max_deps,
+        max_payload,
     };
     let hybrid = crate::hybrid::clock_by(actor, last_wall, last_counter, clock_max_drift_ms);
     delta_told(merge::delta::apply_delta(

@@ -2,14 +2,14 @@
 ghost use Rattle.std.specs.Prelude.{◌≡◌, [], ◌∷◌, ◌-◌, length};
 ghost use Rattle.error.specs.Answer.{accepted, told_by};
 ghost use Rattle.codec.specs.Leb128.{shortest};
-ghost use Rattle.codec.specs.Reading.{get_u8, get_varint, get_u32, get_count, get_bytes, finish, got_number, got_part, finished_at};
-ghost use Rattle.codec.specs.Writing.{sized, write_call, written_of};
-ghost use Rattle.codec.specs.Envelopes.{envelope, read_envelope, envelope_of};
+ghost use Rattle.codec.specs.Reading.{get_u8, get_varint, get_u32, get_count, get_bytes, finish};
+ghost use Rattle.codec.specs.Writing.{sized, write_call};
+ghost use Rattle.codec.specs.Envelopes.{envelope, read_envelope};
 ghost use Rattle.cuwelfra.specs.Bytes.{number_told, part_told, written_told, envelope_told};
 ghost use Rattle.cuwelfra.specs.Exports.{exported};
 
-use codec::{EnvelopeRead, Finished, NumberRead, PartRead, Written};
-use error::Told;
+use codec::{Envelope, Part, Read};
+use error::{Refusal, Told};
 use stubs::ActorId;
 
 #[repr(C)]
@@ -58,16 +58,16 @@ pub(crate) fn accept() -> Told
     }
 }
 
-fn number(r: NumberRead) -> NumberTold
-    ensures { result ≡ number_told (got_number r) }
+fn number(r: Read<u64>) -> NumberTold
+    ensures { result ≡ number_told r }
 {
     match r {
-        NumberRead::Value { value, next } => NumberTold {
+        Ok((value, next)) => NumberTold {
             told: accept(),
             value,
             next: next as u64,
         },
-        NumberRead::Refused(refusal) => NumberTold {
+        Err(refusal) => NumberTold {
             told: error::tell(refusal),
             value: 0,
             next: 0,
@@ -75,17 +75,17 @@ fn number(r: NumberRead) -> NumberTold
     }
 }
 
-fn part(r: PartRead) -> PartTold
-    ensures { result ≡ part_told (got_part r) }
+fn part(r: Read<Part>) -> PartTold
+    ensures { result ≡ part_told r }
 {
     match r {
-        PartRead::Part { start, len, next } => PartTold {
+        Ok((part, next)) => PartTold {
             told: accept(),
-            start: start as u64,
-            len: len as u64,
+            start: part.start as u64,
+            len: part.len as u64,
             next: next as u64,
         },
-        PartRead::Refused(refusal) => PartTold {
+        Err(refusal) => PartTold {
             told: error::tell(refusal),
             start: 0,
             len: 0,
@@ -94,15 +94,15 @@ fn part(r: PartRead) -> PartTold
     }
 }
 
-pub(crate) fn written(r: Written) -> WrittenTold
-    ensures { result ≡ written_told (written_of r) }
+pub(crate) fn written(r: Result<usize, Refusal>) -> WrittenTold
+    ensures { result ≡ written_told r }
 {
     match r {
-        Written::Next(next) => WrittenTold {
+        Ok(next) => WrittenTold {
             told: accept(),
             next: next as u64,
         },
-        Written::Refused(refusal) => WrittenTold {
+        Err(refusal) => WrittenTold {
             told: error::tell(refusal),
             next: 0,
         },
@@ -177,11 +177,7 @@ pub extern "C" fn cuwelfra_get_bytes(s: &[u8], at: usize, max: u64) -> PartTold
 pub extern "C" fn cuwelfra_finish(s: &[u8], at: usize) -> Told
     ensures { result ≡ told_by (finish s.now at) }
 {
-    let f = codec::reader::finish(s, at);
-    match f {
-        Finished::Done => accept(),
-        Finished::Refused(refusal) => error::tell(refusal),
-    }
+    crate::store::outcome_told(codec::reader::finish(s, at))
 }
 
 // How many bytes remain.
@@ -204,25 +200,19 @@ pub extern "C" fn cuwelfra_encode_envelope(
     written(codec::encode_envelope(out, ActorId(sender), body, sig))
 }
 
-fn envelope_told(r: EnvelopeRead) -> EnvelopeTold
-    ensures { result ≡ envelope_told (envelope_of r) }
+fn envelope_told(r: Result<Envelope, Refusal>) -> EnvelopeTold
+    ensures { result ≡ envelope_told r }
 {
     match r {
-        EnvelopeRead::Envelope {
-            sender,
-            body_at,
-            body_len,
-            sig_at,
-            sig_len,
-        } => EnvelopeTold {
+        Ok(envelope) => EnvelopeTold {
             told: accept(),
-            sender: sender.0,
-            body_at: body_at as u64,
-            body_len: body_len as u64,
-            sig_at: sig_at as u64,
-            sig_len: sig_len as u64,
+            sender: envelope.sender.0,
+            body_at: envelope.body.start as u64,
+            body_len: envelope.body.len as u64,
+            sig_at: envelope.sig.start as u64,
+            sig_len: envelope.sig.len as u64,
         },
-        EnvelopeRead::Refused(refusal) => EnvelopeTold {
+        Err(refusal) => EnvelopeTold {
             told: error::tell(refusal),
             sender: 0,
             body_at: 0,

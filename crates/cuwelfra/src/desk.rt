@@ -1,6 +1,6 @@
 // A desk's own rows, prepared and sealed: crate engine.
 ghost use Rattle.std.specs.Prelude.{◌≡◌};
-ghost use Rattle.error.specs.Answer.{Answer, told_by};
+ghost use Rattle.error.specs.Answer.{Answer, told_by, ends};
 ghost use Rattle.clock.specs.declared.hybrid.HybridClock.{HybridClock};
 ghost use Rattle.row.specs.Rows.{Row};
 ghost use Rattle.replicated_log.specs.Areas.{areas};
@@ -10,8 +10,9 @@ ghost use Rattle.cuwelfra.specs.Exports.{exported};
 ghost use Rattle.cuwelfra.specs.Hybrids.{clock_by};
 ghost use Rattle.cuwelfra.specs.Desks.{row_told, prepared_told};
 
+use clock::hybrid::HybridClock;
 use engine::Prepared;
-use error::Told;
+use error::{Ends, Told};
 use stubs::ActorId;
 
 // A prepared row, or the refusal with zeros, but for the hybrid clock.
@@ -31,29 +32,46 @@ pub struct PreparedTold {
     pub last_counter: u64,
 }
 
-fn prepared_told(p: Prepared) -> PreparedTold
-    ensures { (answer : Answer Row) (hybrid : HybridClock) → p ≡ prepared_by answer hybrid → result ≡ row_told answer hybrid }
+fn prepared_told(p: Ends<Prepared, HybridClock>) -> PreparedTold
+    ensures { (answer : Answer Row) (hybrid : HybridClock) → p ≡ ends (prepared_by answer) hybrid → result ≡ row_told answer hybrid }
 {
-    let outcome = p.outcome;
-    let op = p.op;
-    let clock = p.clock;
-    let stamp = op.timestamp;
-    let actor = stamp.actor_id;
-    let deps = op.deps;
-    let dep_authors = deps.authors;
-    let dep_numbers = deps.numbers;
-    PreparedTold {
-        told: crate::store::outcome_told(outcome),
-        wall_time: stamp.wall_time,
-        logical_counter: stamp.logical_counter as u64,
-        actor_id: actor.0,
-        sequence: op.seq,
-        deps: deps.count as u64,
-        dep_authors,
-        dep_numbers,
-        len: p.len,
-        last_wall: clock.last_wall,
-        last_counter: clock.last_counter as u64,
+    let clock = p.left;
+    match p.answer {
+        Ok(row) => {
+            let op = row.op;
+            let deps = op.deps;
+            let dep_authors = deps.authors;
+            let dep_numbers = deps.numbers;
+            PreparedTold {
+                told: crate::bytes::accept(),
+                wall_time: op.timestamp.wall_time,
+                logical_counter: u64::from(op.timestamp.logical_counter),
+                actor_id: op.timestamp.actor_id.0,
+                sequence: op.seq,
+                deps: deps.count as u64,
+                dep_authors,
+                dep_numbers,
+                len: row.len,
+                last_wall: clock.last_wall,
+                last_counter: u64::from(clock.last_counter),
+            }
+        }
+        Err(refusal) => {
+            let none = [0; 16];
+            PreparedTold {
+                told: error::tell(refusal),
+                wall_time: 0,
+                logical_counter: 0,
+                actor_id: 0,
+                sequence: 0,
+                deps: 0,
+                dep_authors: none,
+                dep_numbers: none,
+                len: 0,
+                last_wall: clock.last_wall,
+                last_counter: u64::from(clock.last_counter),
+            }
+        }
     }
 }
 

@@ -1,12 +1,13 @@
 // Stamps and hybrid clocks: crate clock.
 ghost use Rattle.std.specs.Prelude.{◌≡◌};
 ghost use Rattle.clock.specs.Order.{stamp_order};
-ghost use Rattle.clock.specs.Hybrid.{new_clock, now_call, update_call, issued_of, updated_of};
+ghost use Rattle.clock.specs.Hybrid.{new_clock, now_call, update_call};
 ghost use Rattle.cuwelfra.specs.Hybrids.{clock_by, stamp_by, order_number, hybrid_told, issued_told, updated_told};
 
 use clock::hybrid::{HybridClock, Issued, Updated};
-use clock::stamp::{Ordering, Timestamp};
+use clock::stamp::Timestamp;
 use error::Told;
+use std::cmp::Ordering;
 use stubs::ActorId;
 
 #[repr(C)]
@@ -66,55 +67,45 @@ pub(crate) fn stamp_by(wall: u64, counter: u32, actor: u64) -> Timestamp
 fn hybrid_told(c: HybridClock) -> HybridTold
     ensures { result ≡ hybrid_told c }
 {
-    let actor = c.actor;
     HybridTold {
-        actor: actor.0,
+        actor: c.actor.0,
         last_wall: c.last_wall,
-        last_counter: c.last_counter as u64,
+        last_counter: u64::from(c.last_counter),
         max_drift_ms: c.max_drift_ms,
     }
 }
 
 fn issued_told(r: Issued) -> IssuedTold
-    ensures { result ≡ issued_told (issued_of r) }
+    ensures { result ≡ issued_told r }
 {
-    match r {
-        Issued::Stamp { stamp, clock } => {
-            let actor = stamp.actor_id;
-            IssuedTold {
-                told: crate::bytes::accept(),
-                wall_time: stamp.wall_time,
-                logical_counter: stamp.logical_counter as u64,
-                actor_id: actor.0,
-                last_wall: clock.last_wall,
-                last_counter: clock.last_counter as u64,
-            }
-        }
-        Issued::Refused { refusal, clock } => IssuedTold {
+    let clock = r.left;
+    match r.answer {
+        Ok(stamp) => IssuedTold {
+            told: crate::bytes::accept(),
+            wall_time: stamp.wall_time,
+            logical_counter: u64::from(stamp.logical_counter),
+            actor_id: stamp.actor_id.0,
+            last_wall: clock.last_wall,
+            last_counter: u64::from(clock.last_counter),
+        },
+        Err(refusal) => IssuedTold {
             told: error::tell(refusal),
             wall_time: 0,
             logical_counter: 0,
             actor_id: 0,
             last_wall: clock.last_wall,
-            last_counter: clock.last_counter as u64,
+            last_counter: u64::from(clock.last_counter),
         },
     }
 }
 
 fn updated_told(r: Updated) -> UpdatedTold
-    ensures { result ≡ updated_told (updated_of r) }
+    ensures { result ≡ updated_told r }
 {
-    match r {
-        Updated::Clock(clock) => UpdatedTold {
-            told: crate::bytes::accept(),
-            last_wall: clock.last_wall,
-            last_counter: clock.last_counter as u64,
-        },
-        Updated::Refused { refusal, clock } => UpdatedTold {
-            told: error::tell(refusal),
-            last_wall: clock.last_wall,
-            last_counter: clock.last_counter as u64,
-        },
+    UpdatedTold {
+        told: crate::store::outcome_told(r.answer),
+        last_wall: r.left.last_wall,
+        last_counter: u64::from(r.left.last_counter),
     }
 }
 
@@ -130,8 +121,9 @@ pub extern "C" fn cuwelfra_timestamp_cmp(
 ) -> u64
     ensures { result ≡ order_number (stamp_order (stamp_by wall_a counter_a actor_a) (stamp_by wall_b counter_b actor_b)) }
 {
-    let o = stamp_by(wall_a, counter_a, actor_a).cmp(stamp_by(wall_b, counter_b, actor_b));
-    match o {
+    let a = stamp_by(wall_a, counter_a, actor_a);
+    let b = stamp_by(wall_b, counter_b, actor_b);
+    match a.cmp(&b) {
         Ordering::Less => 0,
         Ordering::Equal => 1,
         Ordering::Greater => 2,

@@ -7,8 +7,8 @@ ghost use Rattle.cuwelfra.specs.Messages.{message_ends, frame_ends};
 ghost use Rattle.cuwelfra.specs.Inside.MessageParts.{kind_tag, kind_number, read_told, frame_read_told};
 
 use crate::bytes::{WrittenTold, accept, written};
-use error::Told;
-use message::{FrameRead, Kind, MessageRead};
+use error::{Refusal, Told};
+use message::{FrameRead, Kind};
 
 // Which message was read: its tag, and the rows of a Delta or the nonce of Ping and Pong.
 #[repr(C)]
@@ -57,16 +57,16 @@ fn number_of(kind: Kind) -> u64
     }
 }
 
-fn message_told(r: MessageRead) -> MessageTold
+fn message_told(r: Result<Kind, Refusal>) -> MessageTold
     ensures { result ≡ read_told r }
 {
     match r {
-        MessageRead::Message(kind) => MessageTold {
+        Ok(kind) => MessageTold {
             told: accept(),
             tag: tag_of(kind),
             number: number_of(kind),
         },
-        MessageRead::Refused(refusal) => MessageTold {
+        Err(refusal) => MessageTold {
             told: error::tell(refusal),
             tag: 0,
             number: 0,
@@ -74,28 +74,24 @@ fn message_told(r: MessageRead) -> MessageTold
     }
 }
 
-fn frame_told(r: FrameRead) -> FrameTold
+fn frame_told(r: Result<FrameRead, Refusal>) -> FrameTold
     ensures { result ≡ frame_read_told r }
 {
     match r {
-        FrameRead::Frame {
-            sender,
-            body_at,
-            body_len,
-            sig_at,
-            sig_len,
-            kind,
-        } => FrameTold {
-            told: accept(),
-            sender: sender.0,
-            body_at: body_at as u64,
-            body_len: body_len as u64,
-            sig_at: sig_at as u64,
-            sig_len: sig_len as u64,
-            tag: tag_of(kind),
-            number: number_of(kind),
-        },
-        FrameRead::Refused(refusal) => FrameTold {
+        Ok(frame) => {
+            let envelope = frame.envelope;
+            FrameTold {
+                told: accept(),
+                sender: envelope.sender.0,
+                body_at: envelope.body.start as u64,
+                body_len: envelope.body.len as u64,
+                sig_at: envelope.sig.start as u64,
+                sig_len: envelope.sig.len as u64,
+                tag: tag_of(frame.kind),
+                number: number_of(frame.kind),
+            }
+        }
+        Err(refusal) => FrameTold {
             told: error::tell(refusal),
             sender: 0,
             body_at: 0,

@@ -7,8 +7,9 @@ ghost use Rattle.cuwelfra.specs.Stores.{op_told, row_out, row_into};
 ghost use Rattle.cuwelfra.specs.Exports.{exported};
 
 use crate::bytes::WrittenTold;
+use codec::Read;
 use error::Told;
-use row::{Reading, RowRead};
+use row::RowRead;
 
 #[repr(C)]
 #[derive(Clone, Copy)]
@@ -34,18 +35,16 @@ pub extern "C" fn cuwelfra_signed_op(slot: &[u8], out: &mut [u8]) -> WrittenTold
     crate::bytes::written(row::wire::signed_op(slot, out))
 }
 
-fn op_told(r: RowRead) -> OpTold
+fn op_told(r: Read<RowRead>) -> OpTold
     ensures { (src : List ℕ) → result ≡ op_told (row_read_of src r) }
 {
-    let reading = r.reading;
-    let verdict = r.verdict;
-    match reading {
-        Reading::Read(next) => OpTold {
+    match r {
+        Ok((row, next)) => OpTold {
             told: crate::bytes::accept(),
             next: next as u64,
-            verdict: verdict as u64,
+            verdict: u64::from(row.verdict),
         },
-        Reading::Refused(refusal) => OpTold {
+        Err(refusal) => OpTold {
             told: error::tell(refusal),
             next: 0,
             verdict: 0,

@@ -2,18 +2,18 @@
 ghost use Rattle.std.specs.Prelude.{◌≡◌, ◌≤◌, length};
 ghost use Rattle.words.specs.Names.{Clock};
 ghost use Rattle.error.specs.Answer.{Answer, accepted, told_by};
-ghost use Rattle.clock.specs.Vector.{outcome_of};
 ghost use Rattle.replicated_log.specs.Areas.{areas};
 ghost use Rattle.replicated_log.specs.Calls.{log_len_call, pending_len_call, floor_call, watermark_call, clock_call, compacted_call, derive_call, can_serve_call, find_call, check_call};
-ghost use Rattle.replicated_log.specs.Answers.{stamp_of, ClockIs};
+ghost use Rattle.replicated_log.specs.Answers.{clock_answer};
 ghost use Rattle.cuwelfra.specs.Exports.{exported};
 ghost use Rattle.cuwelfra.specs.Vectors.{count_told, cover_told};
 ghost use Rattle.cuwelfra.specs.Stores.{stamp_told, lookup_told, clock_out};
 
 use crate::vector::ClockTold;
-use clock::vector::{CoverAnswer, NumberAnswer, Outcome};
+use clock::stamp::Timestamp;
+use clock::vector::VectorClock;
 use error::{Refusal, Told};
-use replicated_log::{ClockAnswer, Place, StampAnswer};
+use replicated_log::Place;
 use stubs::ActorId;
 
 #[repr(C)]
@@ -26,43 +26,40 @@ pub struct StampTold {
     pub actor_id: u64,
 }
 
-pub(crate) fn outcome_told(o: Outcome) -> Told
-    ensures { result ≡ told_by (outcome_of o) }
+pub(crate) fn outcome_told(r: Result<(), Refusal>) -> Told
+    ensures { result ≡ told_by r }
 {
-    match o {
-        Outcome::Done => crate::bytes::accept(),
-        Outcome::Refused(refusal) => error::tell(refusal),
+    match r {
+        Ok(()) => crate::bytes::accept(),
+        Err(refusal) => error::tell(refusal),
     }
 }
 
-pub(crate) fn stamp_told(r: StampAnswer) -> StampTold
-    ensures { result ≡ stamp_told (stamp_of r) }
+fn no_stamp(told: Told) -> StampTold
+    ensures { result ≡ record { told = told; present = 0; wall_time = 0; logical_counter = 0; actor_id = 0 } }
+{
+    StampTold {
+        told,
+        present: 0,
+        wall_time: 0,
+        logical_counter: 0,
+        actor_id: 0,
+    }
+}
+
+pub(crate) fn stamp_told(r: Result<Option<Timestamp>, Refusal>) -> StampTold
+    ensures { result ≡ stamp_told r }
 {
     match r {
-        StampAnswer::None => StampTold {
+        Ok(Some(stamp)) => StampTold {
             told: crate::bytes::accept(),
-            present: 0,
-            wall_time: 0,
-            logical_counter: 0,
-            actor_id: 0,
+            present: 1,
+            wall_time: stamp.wall_time,
+            logical_counter: u64::from(stamp.logical_counter),
+            actor_id: stamp.actor_id.0,
         },
-        StampAnswer::Stamp(stamp) => {
-            let actor = stamp.actor_id;
-            StampTold {
-                told: crate::bytes::accept(),
-                present: 1,
-                wall_time: stamp.wall_time,
-                logical_counter: stamp.logical_counter as u64,
-                actor_id: actor.0,
-            }
-        }
-        StampAnswer::Refused(refusal) => StampTold {
-            told: error::tell(refusal),
-            present: 0,
-            wall_time: 0,
-            logical_counter: 0,
-            actor_id: 0,
-        },
+        Ok(None) => no_stamp(crate::bytes::accept()),
+        Err(refusal) => no_stamp(error::tell(refusal)),
     }
 }
 
@@ -111,18 +108,16 @@ pub extern "C" fn cuwelfra_can_serve(log: &[u8], held: &[u8], head: &[u8], peer:
 }
 
 // Writes an answered clock to a clock area; a refused one leaves it.
-fn put_clock(area: &mut [u8], r: ClockAnswer) -> Told
+fn put_clock(area: &mut [u8], r: Result<VectorClock, Refusal>) -> Told
     requires { 520 ≤ length area.old }
-    ensures { (answer : Answer Clock) → ClockIs answer r → (result, area.new) ≡ exported told_by (clock_out area.old answer) }
+    ensures { (answer : Answer Clock) → r ≡ clock_answer answer → (result, area.new) ≡ exported told_by (clock_out area.old answer) }
 {
-    let outcome = r.outcome;
-    match outcome {
-        Outcome::Done => {
-            let clock = r.clock;
-            clock::raw::store_clock(area, 0, clock);
+    match r {
+        Ok(clock) => {
+            clock::raw::store_clock(area, 0, &clock);
             crate::bytes::accept()
         }
-        Outcome::Refused(refusal) => error::tell(refusal),
+        Err(refusal) => error::tell(refusal),
     }
 }
 
@@ -200,18 +195,11 @@ pub extern "C" fn cuwelfra_lookup(
 ) -> LookupTold
     ensures { result ≡ lookup_told (areas log.now held.now head.now) (find_call (areas log.now held.now head.now) actor seq) }
 {
-    let place = replicated_log::lookup::find(log, held, head, ActorId(actor), seq);
-    match place {
-        Place::Logged(i) => {
-            let payload = replicated_log::raw::payload(log, i);
-            found(1, i, payload.len())
-        }
-        Place::Held(i) => {
-            let payload = replicated_log::raw::payload(held, i);
-            found(2, i, payload.len())
-        }
-        Place::Absent => found(0, 0, 0),
-        Place::Refused(refusal) => LookupTold {
+    match replicated_log::lookup::find(log, held, head, ActorId(actor), seq) {
+        Ok(Some(Place::Logged(i))) => found(1, i, replicated_log::raw::payload(log, i).len()),
+        Ok(Some(Place::Held(i))) => found(2, i, replicated_log::raw::payload(held, i).len()),
+        Ok(None) => found(0, 0, 0),
+        Err(refusal) => LookupTold {
             told: error::tell(refusal),
             place: 0,
             slot: 0,

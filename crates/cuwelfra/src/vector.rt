@@ -1,14 +1,13 @@
 // Vector clocks in areas of 520 bytes: crate clock.
 ghost use Rattle.std.specs.Prelude.{◌≡◌, ◌≤◌, length};
 ghost use Rattle.error.specs.Answer.{done, told_by};
-ghost use Rattle.clock.specs.Vector.{number_answer, outcome_of, cover_of, order_answer, changed_of, incremented_of};
+ghost use Rattle.words.specs.Areas.{put_at};
 ghost use Rattle.cuwelfra.specs.Vectors.{new_area, observe_area, increment_area, merge_area, get_area, dominates_area, compare_area, count_told, cover_told, order_told};
-ghost use Rattle.cuwelfra.specs.Exports.{exported, written_back};
+ghost use Rattle.cuwelfra.specs.Exports.{exported, if_done};
 ghost use Rattle.clock.specs.Area.{clock_bytes};
 
-use clock::vector::{
-    CausalOrder, Changed, CoverAnswer, Incremented, NumberAnswer, OrderAnswer, Outcome, VectorClock,
-};
+use crate::store::outcome_told;
+use clock::vector::{CausalOrder, VectorClock};
 use error::{Refusal, Told};
 use stubs::ActorId;
 
@@ -19,109 +18,57 @@ pub struct ClockTold {
     pub number: u64,
 }
 
-pub(crate) fn clock_told(r: NumberAnswer) -> ClockTold
-    ensures { result ≡ count_told (number_answer r) }
+pub(crate) fn clock_told(r: Result<u64, Refusal>) -> ClockTold
+    ensures { result ≡ count_told r }
 {
     match r {
-        NumberAnswer::Number(number) => ClockTold {
+        Ok(number) => ClockTold {
             told: crate::bytes::accept(),
             number,
         },
-        NumberAnswer::Refused(refusal) => ClockTold {
+        Err(refusal) => ClockTold {
             told: error::tell(refusal),
             number: 0,
         },
     }
 }
 
-pub(crate) fn cover_told(r: CoverAnswer) -> ClockTold
-    ensures { result ≡ cover_told (cover_of r) }
+pub(crate) fn cover_told(r: Result<bool, Refusal>) -> ClockTold
+    ensures { result ≡ cover_told r }
 {
     match r {
-        CoverAnswer::Covers => ClockTold {
-            told: crate::bytes::accept(),
-            number: 1,
-        },
-        CoverAnswer::Lacks => ClockTold {
-            told: crate::bytes::accept(),
-            number: 0,
-        },
-        CoverAnswer::Refused(refusal) => ClockTold {
-            told: error::tell(refusal),
-            number: 0,
-        },
+        Ok(covers) => clock_told(Ok(u64::from(covers))),
+        Err(refusal) => clock_told(Err(refusal)),
     }
 }
 
-fn causal_told(o: CausalOrder) -> ClockTold
-    ensures { result ≡ order_told (done o) }
+fn order_number(o: CausalOrder) -> u64
+    ensures { order_told (done o) ≡ count_told (done result) }
 {
     match o {
-        CausalOrder::Before => ClockTold {
-            told: crate::bytes::accept(),
-            number: 0,
-        },
-        CausalOrder::After => ClockTold {
-            told: crate::bytes::accept(),
-            number: 1,
-        },
-        CausalOrder::Equal => ClockTold {
-            told: crate::bytes::accept(),
-            number: 2,
-        },
-        CausalOrder::Concurrent => ClockTold {
-            told: crate::bytes::accept(),
-            number: 3,
-        },
+        CausalOrder::Before => 0,
+        CausalOrder::After => 1,
+        CausalOrder::Equal => 2,
+        CausalOrder::Concurrent => 3,
     }
 }
 
-fn order_told(r: OrderAnswer) -> ClockTold
-    ensures { result ≡ order_told (order_answer r) }
+fn order_told(r: Result<CausalOrder, Refusal>) -> ClockTold
+    ensures { result ≡ order_told r }
 {
     match r {
-        OrderAnswer::Order(o) => causal_told(o),
-        OrderAnswer::Refused(refusal) => ClockTold {
-            told: error::tell(refusal),
-            number: 0,
-        },
+        Ok(order) => clock_told(Ok(order_number(order))),
+        Err(refusal) => clock_told(Err(refusal)),
     }
 }
 
-// Writes the changed clock back; a refused one is left.
-fn keep(area: &mut [u8], r: Changed) -> Told
+// Writes a clock back where the call on it was carried out.
+fn keep<T: Copy>(area: &mut [u8], answer: Result<T, Refusal>, clock: &VectorClock)
     requires { 520 ≤ length area.old }
-    ensures { (result, area.new) ≡ exported told_by (written_back clock_bytes area.old (changed_of r)) }
+    ensures { area.new ≡ if_done answer (put_at area.old 0 (clock_bytes clock.now)) area.old }
 {
-    let outcome = r.outcome;
-    match outcome {
-        Outcome::Done => {
-            let clock = r.clock;
-            clock::raw::store_clock(area, 0, clock);
-            crate::bytes::accept()
-        }
-        Outcome::Refused(refusal) => error::tell(refusal),
-    }
-}
-
-fn keep_number(area: &mut [u8], r: Incremented) -> ClockTold
-    requires { 520 ≤ length area.old }
-    ensures { (result, area.new) ≡ exported count_told (written_back clock_bytes area.old (incremented_of r)) }
-{
-    let answer = r.answer;
-    match answer {
-        NumberAnswer::Number(number) => {
-            let clock = r.clock;
-            clock::raw::store_clock(area, 0, clock);
-            ClockTold {
-                told: crate::bytes::accept(),
-                number,
-            }
-        }
-        NumberAnswer::Refused(refusal) => ClockTold {
-            told: error::tell(refusal),
-            number: 0,
-        },
+    if answer.is_ok() {
+        clock::raw::store_clock(area, 0, clock);
     }
 }
 
@@ -133,7 +80,7 @@ pub extern "C" fn cuwelfra_clock_new(clock: &mut [u8]) -> Told
     if clock.len() < 520 {
         return error::tell(Refusal::ShortArea);
     }
-    clock::raw::store_clock(clock, 0, VectorClock::new());
+    clock::raw::store_clock(clock, 0, &VectorClock::new());
     crate::bytes::accept()
 }
 
@@ -142,7 +89,7 @@ pub extern "C" fn cuwelfra_clock_get(clock: &[u8], actor: u64) -> ClockTold
     ensures { result ≡ count_told (get_area clock.now actor) }
 {
     if clock.len() < 520 {
-        return clock_told(NumberAnswer::Refused(Refusal::ShortArea));
+        return clock_told(Err(Refusal::ShortArea));
     }
     clock_told(clock::raw::load_clock(clock, 0).get(ActorId(actor)))
 }
@@ -154,8 +101,10 @@ pub extern "C" fn cuwelfra_clock_observe(clock: &mut [u8], actor: u64, seq: u64)
     if clock.len() < 520 {
         return error::tell(Refusal::ShortArea);
     }
-    let changed = clock::raw::load_clock(clock, 0).observe(ActorId(actor), seq);
-    keep(clock, changed)
+    let mut own = clock::raw::load_clock(clock, 0);
+    let answer = own.observe(ActorId(actor), seq);
+    keep(clock, answer, &own);
+    outcome_told(answer)
 }
 
 #[unsafe(no_mangle)]
@@ -163,10 +112,12 @@ pub extern "C" fn cuwelfra_clock_increment(clock: &mut [u8], actor: u64) -> Cloc
     ensures { (result, clock.new) ≡ exported count_told (increment_area clock.old actor) }
 {
     if clock.len() < 520 {
-        return clock_told(NumberAnswer::Refused(Refusal::ShortArea));
+        return clock_told(Err(Refusal::ShortArea));
     }
-    let changed = clock::raw::load_clock(clock, 0).increment(ActorId(actor));
-    keep_number(clock, changed)
+    let mut own = clock::raw::load_clock(clock, 0);
+    let answer = own.increment(ActorId(actor));
+    keep(clock, answer, &own);
+    clock_told(answer)
 }
 
 #[unsafe(no_mangle)]
@@ -180,8 +131,10 @@ pub extern "C" fn cuwelfra_clock_merge(clock: &mut [u8], other: &[u8]) -> Told
         return error::tell(Refusal::ShortArea);
     }
     let theirs = clock::raw::load_clock(other, 0);
-    let changed = clock::raw::load_clock(clock, 0).merge(theirs);
-    keep(clock, changed)
+    let mut own = clock::raw::load_clock(clock, 0);
+    let answer = own.merge(&theirs);
+    keep(clock, answer, &own);
+    outcome_told(answer)
 }
 
 #[unsafe(no_mangle)]
@@ -189,13 +142,13 @@ pub extern "C" fn cuwelfra_clock_dominates(clock: &[u8], other: &[u8]) -> ClockT
     ensures { result ≡ cover_told (dominates_area clock.now other.now) }
 {
     if clock.len() < 520 {
-        return cover_told(CoverAnswer::Refused(Refusal::ShortArea));
+        return cover_told(Err(Refusal::ShortArea));
     }
     if other.len() < 520 {
-        return cover_told(CoverAnswer::Refused(Refusal::ShortArea));
+        return cover_told(Err(Refusal::ShortArea));
     }
     let theirs = clock::raw::load_clock(other, 0);
-    cover_told(clock::raw::load_clock(clock, 0).dominates(theirs))
+    cover_told(clock::raw::load_clock(clock, 0).dominates(&theirs))
 }
 
 #[unsafe(no_mangle)]
@@ -203,11 +156,11 @@ pub extern "C" fn cuwelfra_clock_compare(clock: &[u8], other: &[u8]) -> ClockTol
     ensures { result ≡ order_told (compare_area clock.now other.now) }
 {
     if clock.len() < 520 {
-        return order_told(OrderAnswer::Refused(Refusal::ShortArea));
+        return order_told(Err(Refusal::ShortArea));
     }
     if other.len() < 520 {
-        return order_told(OrderAnswer::Refused(Refusal::ShortArea));
+        return order_told(Err(Refusal::ShortArea));
     }
     let theirs = clock::raw::load_clock(other, 0);
-    order_told(clock::raw::load_clock(clock, 0).compare(theirs))
+    order_told(clock::raw::load_clock(clock, 0).compare(&theirs))
 }

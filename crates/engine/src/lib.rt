@@ -4,16 +4,11 @@
 pub mod preparing; // a row with its stamp, sequence and causes, and the bytes to sign
 pub mod sealing; // the signed row into the log
 
-use clock::hybrid::HybridClock;
-use clock::vector::Outcome;
 use row::StampedOperation;
 
-// A prepared row, its payload lying in the payload that was lent, and how many bytes are to be signed; both are zero in a
-// refusal. The hybrid clock is moved on, in a refusal as it was handed in.
+// A prepared row, its payload lying in the payload that was lent, and how many bytes are to be signed.
 #[derive(Clone, Copy)]
 pub struct Prepared {
-    pub outcome: Outcome,
     pub op: StampedOperation,
     pub len: usize,
-    pub clock: HybridClock,
 }

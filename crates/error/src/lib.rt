@@ -7,7 +7,7 @@ ghost use Rattle.error.specs.Numbers.{told_of};
 use stubs::ActorId;
 
 // One variant for each numbered refusal. The comment gives number and word.
-#[derive(Clone, Copy)]
+#[derive(Clone, Copy, Debug, PartialEq, Eq)]
 pub enum Refusal {
     // 1 unsound store
     UnsoundStore,
@@ -196,7 +196,7 @@ pub fn second(r: Refusal) -> u64
 
 // A refusal as numbers, for an exported call.
 #[repr(C)]
-#[derive(Clone, Copy)]
+#[derive(Clone, Copy, Debug, PartialEq, Eq)]
 pub struct Told {
     pub number: u64,
     pub first: u64,
@@ -211,4 +211,11 @@ pub fn tell(r: Refusal) -> Told
         first: first(r),
         second: second(r),
     }
+}
+
+// How a call ends: its answer, and what it leaves of what it was given by value.
+#[derive(Clone, Copy, Debug, PartialEq, Eq)]
+pub struct Ends<T, L> {
+    pub answer: Result<T, Refusal>,
+    pub left: L,
 }

@@ -8,6 +8,7 @@ use lib.ListN.{length, drop, replicate}
 use Rattle.words.specs.Be.{column}
 use Rattle.words.specs.Areas.{put_at}
 use Rattle.error.specs.declared.Refusal.{Refusal}
+use Rattle.std.specs.declared.result.Result.TheVariants.{Ok, Err}
 use Rattle.error.specs.Answer.{Answer, done, refused, nothing, ends}
 use Rattle.row.specs.Reading.{BatchRow}
 use Rattle.replicated_log.specs.Store.{Store}
@@ -25,14 +26,11 @@ use Rattle.working.specs.Inside.References.{work_rows}
 use Rattle.quota.specs.Inside.Room.{rows_logged, Rooms}
 use Rattle.commit.specs.declared.Fates.{Fates}
 use Rattle.commit.specs.Inside.Logging.{AllLogged}
-use Rattle.merge.specs.Inside.Decision.{Opened, Judged, Accepts, Merges, Decides, CommitNeeds, Commits, call_of}
+use Rattle.merge.specs.Inside.Decision.{Opened, Judged, Accepts, Merges, Decides, RowsBegin, StartsKnown, CommitNeeds, Commits, call_of}
 use Rattle.merge.specs.Inside.Applying.{applied_of}
 use Rattle.merge.specs.Reports.{report_of}
 use Rattle.merge.specs.declared.MergeReport.{MergeReport}
-use Rattle.merge.specs.declared.call.Applied.{Applied}
-use Rattle.merge.specs.declared.call.Applied.TheVariants as applied
 use Rattle.merge.specs.declared.deciding.Decision.{Decision}
-use Rattle.merge.specs.declared.deciding.Decision.TheVariants as decision
 use Rattle.working.proofs.ScratchColumns.{length_cells}
 use Rattle.merge.proofs.RisingReferences.{length_work}
 use Rattle.merge.proofs.Preparation.{room_scratch, room_output}
@@ -42,14 +40,10 @@ use Rattle.replicated_log.specs.Insertion.{insert_all}
 
 -- ---- 14 to 18
 
-module _ (log held batch head t : List ℕ) (l : Limits) (waiting logged authors : ℕ) where
-  pub quota_refused : (r : Refusal) → ((time : ℕ) → refused r ≡ quotas l (work_rows held batch time (column t 0 waiting)))
+module _ {log held batch head t : List ℕ} {l : Limits} {waiting logged authors : ℕ} where
+  pub quota_refused : {r : Refusal} → ((time : ℕ) → refused r ≡ quotas l (work_rows held batch time (column t 0 waiting)))
       → Judged log held batch head t l waiting logged authors (refused r)
-  quota_refused r q = record { is = λ time s z w d e. rw (← q time) }
-
-  pub quota_passed : (answer : Answer Unit) → ((time : ℕ) → done nothing ≡ quotas l (work_rows held batch time (column t 0 waiting)))
-      → Rooms log head (rows_logged held batch t logged) authors answer → Judged log held batch head t l waiting logged authors answer
-  quota_passed answer q r = record { is = λ time s z w d e. rw (← q time) (r.is s z w d e) }
+  quota_refused q = record { is = λ time s z w d e. rw (← q time) }
 
 -- ---- the decision
 
@@ -62,30 +56,45 @@ module _ (a : Areas) (l : Limits) (time : ℕ) (batch scratch output : List ℕ)
   unfolding batch_answer
   answer_of_lem s rows h e f g = rw (h, e, f, g)
 
-  pub decides : (starts : List ℕ) (n count : ℕ) → Opened a l time batch scratch starts n count → room_for (count + n) scratch output ≡ true → (t : List ℕ) (r : Decision)
+  pub decides : (starts : List ℕ) (n count : ℕ) → Opened a l time batch scratch starts n count → room_for (count + n) scratch output ≡ true → (t : List ℕ) (r : Answer Decision)
       → Merges a l time batch t r → Decides a l time batch scratch output t r
-  decides starts n count o f t (decision.Accepted waiting logged expired duplicates dropped) (Merges.is_accepted_lem m) =
+  decides starts n count o f t (Ok d) m =
       let p : m.store ≡ o.store = cc (m.reads, o.reads) in
       let q : m.rows ≡ o.taken.rows = cc (m.brings, o.taken.brings) in
       let g : room_for (length m.store.held + length m.rows) scratch output ≡ true = rw (p, q, ← o.counts, o.taken.counted) f in
-      Decides.is_accepted_lem m (answer_of_lem m.store m.rows o.within m.reads m.brings g ∙ m.merges) g
-  decides starts n count o f t (decision.Refused r) (Merges.is_refused s rows e b m) =
+      record { accepts = m; answer = answer_of_lem m.store m.rows o.within m.reads m.brings g ∙ m.merges; room = g }
+  decides starts n count o f t (Err r) (s, rows, e, b, m) =
       let p : s ≡ o.store = cc (e, o.reads) in
       let q : rows ≡ o.taken.rows = cc (b, o.taken.brings) in
-      Decides.is_refused (answer_of_lem s rows o.within e b (rw (p, q, ← o.counts, o.taken.counted) f) ∙ m)
+      answer_of_lem s rows o.within e b (rw (p, q, ← o.counts, o.taken.counted) f) ∙ m
 
-  pub refuses : (t : List ℕ) (r : Refusal) → batch_answer a (call_of l time batch scratch output) ≡ refused r → Decides a l time batch scratch output t (decision.Refused r)
-  refuses t r e = Decides.is_refused e
+  -- where the rows of a batch start that was read
+  begins : (starts : List ℕ) (n count : ℕ) → Opened a l time batch scratch starts n count → RowsBegin batch starts
+  begins starts n count o =
+      let t = o.taken in
+      record {
+        rows = t.rows;
+        first = o.first;
+        end = t.end;
+        brings = t.brings;
+        from = rw t.counted t.from;
+        starts_are = rw t.counted o.starts_are;
+        few = rw t.counted t.few;
+        room = rw t.counted o.starts_room;
+      }
+
+  pub starts_known : (starts : List ℕ) (n count : ℕ) → Opened a l time batch scratch starts n count → (r : Answer Decision) → StartsKnown r batch starts
+  starts_known starts n count o (Ok d) = begins starts n count o
+  starts_known starts n count o (Err r) = tt
 
 -- ---- what is written
 
-module _ (a : Areas) (l : Limits) (time : ℕ) (batch t : List ℕ) (waiting logged expired duplicates dropped : ℕ)
-    (m : Accepts a l time batch t waiting logged expired duplicates dropped) where
+module _ {a : Areas} {l : Limits} {time : ℕ} {batch t : List ℕ} {d : Decision} (m : Accepts a l time batch t d) where
   p : Passed a
   p = read_passed a m.store m.reads
 
-  rows_are : rows_of (work_rows a.held batch 0 (column t 8 logged)) ≡ rows_of m.drained.logged
-  rows_are = rows_time a.held batch time (column t 8 logged) ∙ ap rows_of m.refers.logged_are
+  rows_are : rows_of (work_rows a.held batch 0 (column t 8 d.logged)) ≡ rows_of m.drained.logged
+  rows_are = rows_time a.held batch time (column t 8 d.logged) ∙ ap rows_of m.refers.logged_are
 
   committed : commit m.store m.drained ≡ with_held (insert_all m.store (rows_of m.drained.logged)) m.drained.waiting
   committed = commit_is m.store m.drained
@@ -101,7 +110,7 @@ module _ (a : Areas) (l : Limits) (time : ℕ) (batch t : List ℕ) (waiting log
   held_few = (kept m.store (read_rules a m.store m.reads)).held_few
 
   pub commit_needs : (scratch output : List ℕ) → length t ≡ length scratch → room_for (length m.store.held + length m.rows) scratch output ≡ true
-      → CommitNeeds a.log a.held a.head batch t output waiting logged
+      → CommitNeeds a.log a.held a.head batch t output d.waiting d.logged
   commit_needs scratch output same f =
       let r = room_scratch _ scratch output f in
       let q = room_output _ scratch output f in
@@ -127,15 +136,15 @@ module _ (a : Areas) (l : Limits) (time : ℕ) (batch t : List ℕ) (waiting log
         rise = m.rise;
       }
 
-  waiting_length : length m.drained.waiting ≡ waiting
-  waiting_length = sym (ap length m.refers.waiting_are) ∙ length_work a.held batch time (column t 0 waiting) ∙ length_cells t 0 waiting
+  waiting_length : length m.drained.waiting ≡ d.waiting
+  waiting_length = sym (ap length m.refers.waiting_are) ∙ length_work a.held batch time (column t 0 d.waiting) ∙ length_cells t 0 d.waiting
 
   floor_is : floor_at a.head 16 ≡ m.store.floor
   unfolding decode_store
   floor_is = ap (λ s. s.floor) (sym (reads a m.store m.reads).is)
 
   module _ (scratch output : List ℕ) (same : length t ≡ length scratch) (e : batch_answer a (call_of l time batch scratch output) ≡ done m.merged)
-      (log held head output' : List ℕ) (r : Fates) (c : Commits a.log a.held a.head batch t output waiting logged time log held head output' r) where
+      (log held head output' : List ℕ) (r : Fates) (c : Commits a.log a.held a.head batch t output d.waiting d.logged time log held head output' r) where
     counts : AllLogged m.store.floor a.log a.head output log c.middle output' m.drained.logged r
     counts = rw (floor_is, m.refers.logged_are) at c.all_logged
 
@@ -155,7 +164,7 @@ module _ (a : Areas) (l : Limits) (time : ℕ) (batch t : List ℕ) (waiting log
     held-written = c.held_is ∙ rw (m.refers.waiting_are, store_is)
 
     pub batch_leaves : (zeros : List ℕ) → zeros ≡ replicate (length t) 0 → (q : MergeReport) → q.applied ≡ r.applied → q.stale ≡ r.stale → q.rejected ≡ r.rejected
-        → q.duplicates ≡ duplicates → q.held ≡ waiting → q.expired ≡ expired → q.dropped ≡ dropped
+        → q.duplicates ≡ d.duplicates → q.held ≡ d.waiting → q.expired ≡ d.expired → q.dropped ≡ d.dropped
         → ends (done (report_of q)) (lent (areas log held head) zeros output') ≡ batch_call a (call_of l time batch scratch output)
     unfolding batch_call batch_ends write_store
     batch_leaves zeros z q e₁ e₂ e₃ e₄ e₅ e₆ e₇ =
@@ -174,8 +183,8 @@ module _ (a : Areas) (l : Limits) (time : ℕ) (batch t : List ℕ) (waiting log
         rw e (λ i. ends (done (told i)) (lent (areas (written.0 i) (held-written i) (written.1 i)) (clear i) (lines i)))
 
 -- a refused call
-pub batch_refused : (a : Areas) (l : Limits) (time : ℕ) (batch scratch output t zeros : List ℕ) (r : Refusal) (x : Applied)
-    → batch_answer a (call_of l time batch scratch output) ≡ refused r → x ≡ applied.Refused r → zeros ≡ replicate (length t) 0 → length t ≡ length scratch
+pub batch_refused : (a : Areas) (l : Limits) (time : ℕ) (batch scratch output t zeros : List ℕ) (r : Refusal) (x : Answer MergeReport)
+    → batch_answer a (call_of l time batch scratch output) ≡ refused r → x ≡ refused r → zeros ≡ replicate (length t) 0 → length t ≡ length scratch
     → ends (applied_of x) (lent (areas a.log a.held a.head) zeros output) ≡ batch_call a (call_of l time batch scratch output)
 unfolding batch_call batch_ends
 batch_refused a l time batch scratch output t zeros r x e f z same =

@@ -1,17 +1,19 @@
 -- Folding the stamps of a batch: how many there are, and the loop over them.
 use Prim.Native.Nat.{ℕ, suc, ◌+◌, ◌-◌, ◌≤◌, ◌<◌}
-use mathlib.Core.Path.{◌≡◌, sym, ◌∙◌, ap}
+use mathlib.Core.Path.{◌≡◌, refl, sym, ◌∙◌, ap}
 use mathlib.Core.Bool.{true}
 use mathlib.Core.List.{List, ◌∷◌, map}
 use native.Mathlib.Omega.{arith}
 use lib.ListN.{length, get_or, length-map}
-use Rattle.error.specs.declared.Refusal.{Refusal}
-use Rattle.error.specs.Answer.{Answer, done, refused, Ends, Got, got, bad}
+use Rattle.std.specs.Result.{IsOk}
+use Rattle.std.specs.declared.result.Result.TheVariants.{Ok, Err}
+use Rattle.error.specs.Answer.{Answer, Got, got}
 use Rattle.clock.specs.declared.stamp.Timestamp.{Timestamp}
 use Rattle.clock.specs.declared.hybrid.HybridClock.{HybridClock}
-use Rattle.clock.specs.declared.hybrid.Updated.{Updated}
-use Rattle.clock.specs.declared.hybrid.Updated.TheVariants as updated
-use Rattle.clock.specs.Hybrid.{update_call, updated_of}
+use Rattle.clock.specs.Hybrid.{update_call}
+use Rattle.codec.specs.Reading.{get_varint}
+use Rattle.codec.proofs.ReadSteps.{got_value}
+use Rattle.row.proofs.ReadRows.{readable}
 use Rattle.row.specs.Reading.{BatchRow, number, read_row}
 use Rattle.merging.specs.Batch.{read_rows, read_batch}
 use Rattle.merging.specs.Delta as delta
@@ -23,7 +25,6 @@ use Rattle.working.specs.Inside.References.{is_read, arrived_by}
 use Rattle.working.specs.Inside.Looks.{batch_row_at}
 use Rattle.working.proofs.AdmissionLoop.{rows_in, row_is_read, rest_read}
 use Rattle.working.proofs.ReferenceRows.{after_read}
-use Rattle.merge.proofs.StampReads.{got_not_bad}
 use Rattle.merge.specs.Inside.Decision.{Readable, RowsBegin}
 use Rattle.merge.specs.Inside.Applying.{folded_of, failure, one_more}
 use Rattle.merge.specs.declared.folding.Folded.{Folded}
@@ -31,15 +32,16 @@ use Rattle.merge.specs.declared.folding.Folded.{Folded}
 -- ---- how many rows a batch has
 
 module _ (s : List ℕ) (b : Readable s) where
-  counted_rows : (first : ℕ) × (number s 0 ≡ got (length b.0) first)
-  counted_rows = let (first, e, f) = batch_got s b.0 b.1 in (first, e)
+  counted_rows : (first : ℕ) × (get_varint s 0 ≡ got (length b.0) first)
+  unfolding number
+  counted_rows = let (first, e, f) = batch_got s b.0 b.1 in (first, readable (get_varint s 0) e)
 
-  pub has_count : (r : Refusal) → number s 0 ≡ bad r → ⊥
-  has_count r e = got_not_bad counted_rows.1 e
+  pub has_count : IsOk (get_varint s 0)
+  has_count = rw counted_rows.1 refl
 
-  pub stamps_count : (n first : ℕ) → number s 0 ≡ got n first → n ≡ length (stamps_read (read_batch s))
+  pub stamps_count : (n first : ℕ) → get_varint s 0 ≡ got n first → n ≡ length (stamps_read (read_batch s))
   stamps_count n first e =
-      let p : n ≡ length b.0 = cc counted_rows.1 in
+      let p : n ≡ length b.0 = got_value (sym e ∙ counted_rows.1) in
       rw b.1 (p ∙ sym (length-map b.0 _))
 
 -- ---- one fold
@@ -54,26 +56,16 @@ added_none f =
     rw e
 
 one_counted : (n : ℕ) (x : Answer Unit) (f : delta.Folded) → added n (counted x f) ≡ added (n + failure x) f
-one_counted n (done u) f =
+one_counted n (Ok u) f =
     let e : n + 0 ≡ n = omega arith in
     rw e
-one_counted n (refused r) f =
+one_counted n (Err r) f =
     let e : n + suc f.failed ≡ n + 1 + f.failed = omega arith in
     rw e
 
 failure_few : (x : Answer Unit) → failure x ≤ 1
-failure_few (done u) = omega arith
-failure_few (refused r) = omega arith
-
-pub fold_passes : (x : Updated) (u : Ends Unit HybridClock) (n : ℕ) (moved : HybridClock) → x ≡ updated.Clock moved → updated_of x ≡ u
-    → record { clock = moved; failed = n } ≡ one_more u n
-fold_passes x u n moved e q =
-    let z : n + 0 ≡ n = omega arith in
-    rw (← q, e, z)
-
-pub fold_fails : (x : Updated) (u : Ends Unit HybridClock) (n : ℕ) (r : Refusal) (kept : HybridClock) → x ≡ updated.Refused r kept → updated_of x ≡ u
-    → record { clock = kept; failed = n + 1 } ≡ one_more u n
-fold_fails x u n r kept e q = rw (← q, e)
+failure_few (Ok u) = omega arith
+failure_few (Err r) = omega arith
 
 -- ---- the loop
 

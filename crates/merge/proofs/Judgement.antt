@@ -11,6 +11,7 @@ use lib.ListN.{length, take}
 use Rattle.words.specs.Be.{get64, AllBytes, column}
 use Rattle.words.proofs.Words.{test}
 use Rattle.error.specs.declared.Refusal.{Refusal}
+use Rattle.std.specs.declared.result.Result.TheVariants.{Ok, Err}
 use Rattle.error.specs.Answer.{Answer, done, refused, and_then, got, nothing}
 use Rattle.clock.specs.Entries.{observe}
 use Rattle.clock.specs.Vector.{entries}
@@ -20,7 +21,7 @@ use Rattle.row.specs.Slots.{slots_at}
 use Rattle.row.specs.Reading.{BatchRow}
 use Rattle.replicated_log.specs.Store.{Store, derive}
 use Rattle.replicated_log.specs.Areas.{Areas, capacity, decode_store, rows_of}
-use Rattle.replicated_log.specs.Answers.{unit_of}
+use Rattle.replicated_log.specs.Inside.Units.{unit_of}
 use Rattle.replicated_log.proofs.Tables.DerivedClock.{derive_append}
 use Rattle.replicated_log.proofs.Store.Rules.{kept, Kept}
 use Rattle.replicated_log.proofs.Store.Encoding.{reads, read_rules}
@@ -41,9 +42,9 @@ use Rattle.working.specs.Inside.References.{work_row, work_rows}
 use Rattle.working.proofs.ReferenceRows.{row_time}
 use Rattle.working.proofs.ScratchColumns.{length_cells}
 use Rattle.quota.specs.Inside.Room.{rows_logged}
-use Rattle.merge.specs.Inside.Decision.{Opened, SettleNeeds, SettledRows, JudgeNeeds, Judged, Accepts, Merges}
-use Rattle.merge.specs.declared.deciding.Decision.TheVariants as decision
-use Rattle.merge.proofs.UsedSlots.{used_slot, used_refs, used_rows, used_slots}
+use Rattle.merge.specs.Inside.Decision.{Opened, SettleNeeds, SettledRows, JudgeNeeds, Judged, Accepts, NotMerged}
+use Rattle.merge.specs.declared.deciding.Settled.{Settled}
+use Rattle.merge.proofs.UsedSlots.{used_length, used_slot, used_refs, used_rows, used_slots}
 use Rattle.merge.proofs.RisingReferences.{slots_rise, length_work, length_slots}
 use Rattle.merge.proofs.WrittenAreas.{with_held, commit_is}
 use Rattle.words.specs.Lists.{count_if}
@@ -61,8 +62,8 @@ fits_held cap s hs =
     ]
 
 unit_refused : {A : Type 0} (x : Answer A) (r : Refusal) → unit_of x ≡ refused r → x ≡ refused r
-unit_refused (done y) r e = absurd (not_refused (sym e))
-unit_refused (refused q) r e =
+unit_refused (Ok y) r e = absurd (not_refused (sym e))
+unit_refused (Err q) r e =
     let f : q ≡ r = cc in
     rw f
 
@@ -75,8 +76,8 @@ module _ (cap : ℕ) (l : Limits) (s : Store) (kept : List HeldRow) (a : Admitte
   finish_refused r e =
       (elim (quotas l d.waiting) as (λ q. and_then q (λ u. unit_of (fits cap (commit s d))) ≡ refused r
       → and_then {B = Merged} q (λ u. and_then {B = Merged} (fits cap (commit s d)) (λ s'. done (record { store = s'; report = report s kept a d; lines = lines s.floor d.logged }))) ≡ refused r) [
-        | done u ↦ λ f. rw (unit_refused (fits cap (commit s d)) r f)
-        | refused q ↦ λ f. let g : q ≡ r = cc in ap refused g
+        | Ok u ↦ λ f. rw (unit_refused (fits cap (commit s d)) r f)
+        | Err q ↦ λ f. let g : q ≡ r = cc in ap refused g
       ]) e
 
   pub finish_done : asked ≡ done nothing
@@ -110,17 +111,12 @@ rows_time held batch time (k ∷ ks) =
 
 -- ---- the store, its batch and the used slots
 
-pub used_is : (s : List ℕ) (n : ℕ) → take (n - 0) s ≡ take n s
-used_is s n =
-    let f : n - 0 ≡ n = omega arith in
-    rw f
-
-pub oldest_is : (m : MergeLimits) (time cutoff : ℕ) → cutoff ≡ time - m.max_pending_age_ms → cutoff ≡ time - (limits_of m).max_pending_age
+pub oldest_is : (m : MergeLimits) (time : ℕ) {cutoff : ℕ} → cutoff ≡ time - m.max_pending_age_ms → cutoff ≡ time - (limits_of m).max_pending_age
 unfolding limits_of
-oldest_is m time cutoff e = e
+oldest_is m time e = e
 
-module _ (a : Areas) (l : Limits) (time : ℕ) (batch scratch starts : List ℕ) (n count : ℕ) (o : Opened a l time batch scratch starts n count)
-    (u : List ℕ) (e₀ : u ≡ take (704 * count) a.held) (cutoff : ℕ) (c : cutoff ≡ time - l.max_pending_age) where
+module _ {a : Areas} {l : Limits} {time : ℕ} {batch scratch starts : List ℕ} {n count : ℕ} (o : Opened a l time batch scratch starts n count)
+    {u : List ℕ} (e₀ : u ≡ take (704 * count) a.held) {cutoff : ℕ} (c : cutoff ≡ time - l.max_pending_age) where
   p : Passed a
   p = read_passed a o.store o.reads
 
@@ -142,8 +138,11 @@ module _ (a : Areas) (l : Limits) (time : ℕ) (batch scratch starts : List ℕ)
   unfolding decode_store
   held_is = rw count_is (ap (λ s. s.held) (sym is))
 
-  pub opened_long : 704 * count ≤ length a.held
+  opened_long : 704 * count ≤ length a.held
   opened_long = omega (arith, o.counts, k.held_few, p.long.held)
+
+  pub used_long : 704 * count ≡ length u
+  used_long = sym (used_length a.held u count e₀ opened_long)
 
   used_held : slots_at u 0 count ≡ o.store.held
   used_held = used_slots a.held u count e₀ opened_long ∙ held_is
@@ -164,26 +163,25 @@ module _ (a : Areas) (l : Limits) (time : ℕ) (batch scratch starts : List ℕ)
       → admit_all o.store.clock time (starting (unexpired (time - l.max_pending_age) o.store.held)) o.taken.rows ≡ x
   begins x f = rw (clock_is, used_held, c) at f
 
-  pub not_admitted : (t : List ℕ) (r : Refusal)
+  pub not_admitted : {r : Refusal}
       → ((time first : ℕ) (rows : List BatchRow) (end : ℕ) → StartsAt batch starts first n → read_rows batch first n ≡ got rows end
       → admit_all (entries (clock_at a.head 48)) time (starting (unexpired cutoff (slots_at u 0 count))) rows ≡ refused r)
-      → Merges a l time batch t (decision.Refused r)
+      → NotMerged a l time batch r
   unfolding merge
-  not_admitted t r f =
-      Merges.is_refused {r = r} o.store o.taken.rows o.reads o.taken.brings
-      (rw (o.taken.valid, begins _ (f time o.first o.taken.rows o.taken.end o.starts_are o.taken.from)))
+  not_admitted f =
+      (o.store, o.taken.rows, o.reads, o.taken.brings, rw (o.taken.valid, begins _ (f time o.first o.taken.rows o.taken.end o.starts_are o.taken.from)))
 
-  module _ (t : List ℕ) (waiting logged expired duplicates dropped authors : ℕ)
+  module _ {t : List ℕ} {s : Settled}
       (f : (time first : ℕ) (rows : List BatchRow) (end : ℕ) → StartsAt batch starts first n → read_rows batch first n ≡ got rows end
-      → SettledRows u batch a.head time t count cutoff rows waiting logged expired duplicates dropped authors)
+      → SettledRows u batch a.head time t count cutoff rows s)
       (same : length t ≡ length scratch) where
-    d : SettledRows u batch a.head time t count cutoff o.taken.rows waiting logged expired duplicates dropped authors
+    d : SettledRows u batch a.head time t count cutoff o.taken.rows s
     d = f time o.first o.taken.rows o.taken.end o.starts_are o.taken.from
 
-    few : waiting + logged ≤ count + n
+    few : s.waiting + s.logged ≤ count + n
     few = omega (arith, d.total, o.taken.counted)
 
-    pub judge_needs : JudgeNeeds a.log u batch a.head t waiting logged
+    pub judge_needs : JudgeNeeds a.log u batch a.head t s.waiting s.logged
     judge_needs = record {
       working = record { room = omega (arith, few, o.room); refs = d.refers.waiting_refs };
       waiting_few = omega (arith, few, o.counts, k.held_few, o.taken.few);
@@ -201,11 +199,11 @@ module _ (a : Areas) (l : Limits) (time : ℕ) (batch scratch starts : List ℕ)
     unfolding settle
     settles = rw clock_is at d.is
 
-    logged_rows_lem : rows_logged u batch t logged ≡ rows_of d.drained.logged
+    logged_rows_lem : rows_logged u batch t s.logged ≡ rows_of d.drained.logged
     unfolding rows_logged
-    logged_rows_lem = rows_time u batch time (column t 8 logged) ∙ ap rows_of d.refers.logged_are
+    logged_rows_lem = rows_time u batch time (column t 8 s.logged) ∙ ap rows_of d.refers.logged_are
 
-    authors_told : authors ≡ length (insert_all o.store (rows_logged u batch t logged)).clock
+    authors_told : s.authors ≡ length (insert_all o.store (rows_logged u batch t s.logged)).clock
     authors_told =
         let g : d.drained.clock ≡ derive o.store.clock (rows_of d.drained.logged) =
         rw d.is (drain_clock (entries (clock_at a.head 48)) d.admitted.working) ∙ ap (λ c. derive c (rows_of d.drained.logged)) clock_is in
@@ -214,10 +212,10 @@ module _ (a : Areas) (l : Limits) (time : ℕ) (batch scratch starts : List ℕ)
     abbrev expect : Answer Unit
     expect = and_then (quotas l d.drained.waiting) (λ u. unit_of (fits (capacity a.log) (commit o.store d.drained)))
 
-    module _ (answer : Answer Unit) (j : Judged a.log u batch a.head t l waiting logged authors answer) where
+    module _ {answer : Answer Unit} (j : Judged a.log u batch a.head t l s.waiting s.logged s.authors answer) where
       told : answer ≡ expect
       told =
-          let g : unit_of (fits (capacity a.log) (insert_all o.store (rows_logged u batch t logged))) ≡ unit_of (fits (capacity a.log) (commit o.store d.drained)) =
+          let g : unit_of (fits (capacity a.log) (insert_all o.store (rows_logged u batch t s.logged))) ≡ unit_of (fits (capacity a.log) (commit o.store d.drained)) =
           rw (logged_rows_lem, commit_is o.store d.drained) (sym (fits_held (capacity a.log) (insert_all o.store (rows_of d.drained.logged)) d.drained.waiting)) in
           j.is time o.store _ _ (read_stored a o.store o.reads) authors_told ∙ rw (d.refers.waiting_are, g)
 
@@ -226,10 +224,9 @@ module _ (a : Areas) (l : Limits) (time : ℕ) (batch scratch starts : List ℕ)
       unfolding merge
       merge_is = rw (o.taken.valid, admits, settles)
 
-      pub not_passed : (r : Refusal) → answer ≡ refused r → Merges a l time batch t (decision.Refused r)
-      not_passed r e =
-          Merges.is_refused {r = r} o.store o.taken.rows o.reads o.taken.brings
-          (merge_is ∙ finish_refused (capacity a.log) l o.store _ d.admitted d.drained r (sym told ∙ e))
+      pub not_passed : {r : Refusal} → answer ≡ refused r → NotMerged a l time batch r
+      not_passed {r} e =
+          (o.store, o.taken.rows, o.reads, o.taken.brings, merge_is ∙ finish_refused (capacity a.log) l o.store _ d.admitted d.drained r (sym told ∙ e))
 
       module _ (e : answer ≡ done nothing) (now : time < 2 ^ 64) (bytes : AllBytes batch) where
         abbrev m : Merged
@@ -256,13 +253,14 @@ module _ (a : Areas) (l : Limits) (time : ℕ) (batch scratch starts : List ℕ)
         held_after : m.store.held ≡ d.drained.waiting
         held_after = ap (λ s. s.held) (commit_is o.store d.drained)
 
-        waiting_length : length d.drained.waiting ≡ waiting
-        waiting_length = sym (ap length d.refers.waiting_are) ∙ length_work u batch time (column t 0 waiting) ∙ length_cells t 0 waiting
+        waiting_length : length d.drained.waiting ≡ s.waiting
+        waiting_length = sym (ap length d.refers.waiting_are) ∙ length_work u batch time (column t 0 s.waiting) ∙ length_cells t 0 s.waiting
 
-        expired_is : length o.store.held - length (unexpired (time - l.max_pending_age) o.store.held) ≡ expired
+        expired_is : length o.store.held - length (unexpired (time - l.max_pending_age) o.store.held) ≡ s.expired
         expired_is = sym (d.expired_is ∙ rw (used_held, c, o.counts))
 
-        pub accepts : Accepts a l time batch t waiting logged expired duplicates dropped
+        pub accepts : Accepts a l time batch t
+            (record { waiting = s.waiting; logged = s.logged; expired = s.expired; duplicates = s.duplicates; dropped = s.dropped })
         unfolding report
         accepts = record {
           store = o.store;
@@ -286,13 +284,13 @@ module _ (a : Areas) (l : Limits) (time : ℕ) (batch scratch starts : List ℕ)
           within = ends.1;
           refers =
               record {
-                waiting_are = sym (used_rows a.held u count e₀ opened_long batch time (column t 0 waiting) d.refers.waiting_refs) ∙ d.refers.waiting_are;
-                logged_are = sym (used_rows a.held u count e₀ opened_long batch time (column t 8 logged) d.refers.logged_refs) ∙ d.refers.logged_are;
-                waiting_refs = used_refs a.held u count e₀ opened_long batch (column t 0 waiting) d.refers.waiting_refs;
-                logged_refs = used_refs a.held u count e₀ opened_long batch (column t 8 logged) d.refers.logged_refs;
+                waiting_are = sym (used_rows a.held u count e₀ opened_long batch time (column t 0 s.waiting) d.refers.waiting_refs) ∙ d.refers.waiting_are;
+                logged_are = sym (used_rows a.held u count e₀ opened_long batch time (column t 8 s.logged) d.refers.logged_refs) ∙ d.refers.logged_are;
+                waiting_refs = used_refs a.held u count e₀ opened_long batch (column t 0 s.waiting) d.refers.waiting_refs;
+                logged_refs = used_refs a.held u count e₀ opened_long batch (column t 8 s.logged) d.refers.logged_refs;
               };
           rise =
-              slots_rise a.held u batch count e₀ opened_long (rw count_is p.ok.held.keys) time t waiting d.refers.waiting_refs
+              slots_rise a.held u batch count e₀ opened_long (rw count_is p.ok.held.keys) time t s.waiting d.refers.waiting_refs
               (rw d.refers.waiting_are (rw held_after at after.keys));
           few = omega (arith, after.held_few, ap length held_after, waiting_length);
           total = omega (arith, few, o.counts, o.taken.counted);

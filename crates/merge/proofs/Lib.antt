@@ -5,7 +5,6 @@ pub mod Settlement
 pub mod Preparation
 pub mod Judgement
 pub mod CallAnswers
-pub mod PartAnswers
 pub mod StampReads
 pub mod FoldLoop
 pub mod JoinedCall

@@ -15,7 +15,7 @@ use Rattle.working.proofs.ReferenceRows.{ok_held, ok_batch, held_ok_lem, batch_o
 use Rattle.working.proofs.ScratchColumns.{Refs, refs_of, of_refs}
 
 module _ (held u : List ℕ) (count : ℕ) (e : u ≡ take (704 * count) held) (long : 704 * count ≤ length held) where
-  used_length : length u ≡ 704 * count
+  pub used_length : length u ≡ 704 * count
   used_length = rw e (length-take-le (704 * count) held long)
 
   -- a slot that is used

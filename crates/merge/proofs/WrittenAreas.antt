@@ -1,31 +1,27 @@
 -- The areas after a batch and after a floor setting: the bytes of the new store.
-use mathlib.Core.Option.{none, some}
-use Prim.Native.Nat.{ℕ, ◌+◌, ◌*◌, ◌≤◌, ◌<◌}
+use Rattle.std.specs.declared.option.Option.TheVariants.{None, Some}
+use Prim.Native.Nat.{ℕ, ◌+◌, ◌*◌}
 use mathlib.Core.Path.{◌≡◌, refl, sym, ◌∙◌, ap}
 use mathlib.Core.Bool.{Bool, true, false}
 use mathlib.Core.Logic.{inl, inr}
 use mathlib.Core.List.{List, [], ◌∷◌, ◌++◌, append_assoc}
 use native.Mathlib.Nat.{zero-add}
 use native.Mathlib.Omega.{arith}
-use lib.Dec.{leb}
 use lib.ListN.{length, take, drop, length-append}
 use lib.Seq.{take_at, drop_at, drop-drop}
-use borrow.Author.Tests.{le-leb, lt-leb}
 use Rattle.words.specs.Be.{be64, bes}
 use Rattle.words.specs.Choice.{pick}
 use Rattle.words.specs.Areas.{put_at, pad}
 use Rattle.words.proofs.Puts.{length_be, length_bes}
 use Rattle.words.proofs.Words.{test}
 use Rattle.error.specs.declared.Refusal.{Refusal}
-use Rattle.error.specs.Answer.{Answer, done, refused, nothing, ends}
+use Rattle.error.specs.Answer.{done, refused, nothing, ends}
 use Rattle.clock.specs.declared.stamp.Timestamp.{Timestamp}
 use Rattle.clock.specs.Vector.{clock_of}
 use Rattle.clock.specs.Area.{clock_bytes}
 use Rattle.row.specs.Rows.{Row, HeldRow}
 use Rattle.replicated_log.specs.Store.{MaybeStamp, Store}
 use Rattle.replicated_log.specs.Areas.{Areas, areas, capacity, read_store, write_store, head_bytes, encode_marks, floor_words, floor_at, rows_of, decode_store}
-use Rattle.replicated_log.specs.declared.StampAnswer.{StampAnswer}
-use Rattle.replicated_log.specs.Answers.{stamp_of}
 use Rattle.replicated_log.specs.Inside.StoreChanges.{Stored}
 use Rattle.replicated_log.proofs.Store.Encoding.{write_read}
 use Rattle.replicated_log.proofs.Store.HeadBytes.{length_head}
@@ -34,9 +30,7 @@ use Rattle.replicated_log.proofs.Calls.Changes.{read_stored, written}
 use Rattle.replicated_log.proofs.Calls.Queries.{Passed, stopped}
 use Rattle.replicated_log.proofs.Calls.Restoration.{all_held_same}
 use Rattle.merging.specs.Merging.{Drained, above_floor, commit}
-use Rattle.merging.specs.Calls.{room_for, raise_floor, with_floor, set_floor_call}
-use Rattle.commit.specs.Inside.Logging.{floor_of}
-use Rattle.commit.proofs.RowFate.{floor_told}
+use Rattle.merging.specs.Calls.{raise_floor, with_floor, set_floor_call}
 use Rattle.replicated_log.specs.Insertion.{insert, insert_all}
 use Rattle.clock.specs.Order.{stamp_key}
 use Rattle.replicated_log.specs.Calls.{check_call}
@@ -113,14 +107,14 @@ module _ (a : Areas) (s : Store) (e : read_store a ≡ done s) (rows : List Row)
 
 -- ---- the floor raised
 
-floor_is : (f : MaybeStamp) (t : Timestamp) → raise_floor f t ≡ pick (above_floor f t) (some t) f
+floor_is : (f : MaybeStamp) (t : Timestamp) → raise_floor f t ≡ pick (above_floor f t) (Some t) f
 unfolding raise_floor
 floor_is f t = refl
 
 length_floor : (f : MaybeStamp) → length (bes (floor_words f)) ≡ 32
 unfolding floor_words stamp_key
-length_floor none = length_bes _
-length_floor (some t) = length_bes _
+length_floor None = length_bes _
+length_floor (Some t) = length_bes _
 
 abbrev set_floor : Store → MaybeStamp → Store
 set_floor s f =
@@ -162,10 +156,10 @@ module _ (a : Areas) (s : Store) (e : read_store a ≡ done s) (t : Timestamp) w
   unfolding write_store floor_words
   head_set h =
       let d = read_stored a s e in
-      let f : raise_floor s.floor t ≡ some t = floor_is s.floor t ∙ rw h in
-      let l : length (head_bytes (set_floor s (some t))) ≡ 2120 = length-set s (some t) ∙ length_head s (kept s d.kept) in
-      rw f (ap (λ (y : List ℕ). put_at y 16 (bes (floor_words (some t)))) d.head_is ∙ head_floor_lem s (some t) (drop 2120 a.head)
-      ∙ sym (put_head (set_floor s (some t)) a.head l))
+      let f : raise_floor s.floor t ≡ Some t = floor_is s.floor t ∙ rw h in
+      let l : length (head_bytes (set_floor s (Some t))) ≡ 2120 = length-set s (Some t) ∙ length_head s (kept s d.kept) in
+      rw f (ap (λ (y : List ℕ). put_at y 16 (bes (floor_words (Some t)))) d.head_is ∙ head_floor_lem s (Some t) (drop 2120 a.head)
+      ∙ sym (put_head (set_floor s (Some t)) a.head l))
 
   head_kept : above_floor s.floor t ≡ false → a.head ≡ (write_store a floored).head
   unfolding write_store
@@ -185,9 +179,9 @@ module _ (a : Areas) (s : Store) (e : read_store a ≡ done s) (t : Timestamp) w
 
 -- ---- what the code asks and writes
 
-module _ (f : MaybeStamp) (t : Timestamp) (head : List ℕ) (r : StampAnswer) (b : Bool) (e : stamp_of r ≡ done f) (k : b ≡ above_floor (floor_of r) t) where
+module _ (f : MaybeStamp) (t : Timestamp) (head : List ℕ) (r : MaybeStamp) (b : Bool) (e : r ≡ f) (k : b ≡ above_floor r t) where
   told : above_floor f t ≡ b
-  told = rw (← floor_told r f e) (sym k)
+  told = rw (← e) (sym k)
 
   pub raise_set : (out : List ℕ) → b ≡ true → out ≡ put_at head 16 (bes (1 ∷ t.wall_time ∷ t.logical_counter ∷ t.actor_id.0 ∷ []))
       → out ≡ pick (above_floor f t) (put_at head 16 (bes (1 ∷ stamp_key t))) head
@@ -197,20 +191,10 @@ module _ (f : MaybeStamp) (t : Timestamp) (head : List ℕ) (r : StampAnswer) (b
   pub raise_not : b ≡ false → head ≡ pick (above_floor f t) (put_at head 16 (bes (1 ∷ stamp_key t))) head
   raise_not h = rw (told, h)
 
--- output and scratch
-pub room_not : (n : ℕ) (scratch output : List ℕ) → length output < 18 * n → false ≡ room_for n scratch output
-unfolding room_for
-room_not n scratch output h = rw (lt-leb (18 * n) (length output) h)
-
-pub room_is : (n : ℕ) (scratch output : List ℕ) → 18 * n ≤ length output → leb (704 * n) (length scratch) ≡ room_for n scratch output
-unfolding room_for
-room_is n scratch output h = rw (le-leb (18 * n) (length output) h)
-
 -- a refused floor setting
-pub floor_refused : (a : Areas) (t : Timestamp) (x : Answer Unit) (r : Refusal) → x ≡ check_call a → x ≡ refused r
-    → ends x (areas a.log a.held a.head) ≡ set_floor_call a t
+pub floor_refused : (a : Areas) (t : Timestamp) (r : Refusal) → refused r ≡ check_call a → ends (refused r) (areas a.log a.held a.head) ≡ set_floor_call a t
 unfolding set_floor_call
-floor_refused a t x r e f = rw (stopped a x r e f) (ap (λ (y : Answer Unit). ends y a) f)
+floor_refused a t r e = rw (stopped a e)
 
 pub floor_set : (a : Areas) (t : Timestamp) (p : Passed a) (head : List ℕ)
     → head ≡ pick (above_floor (floor_at a.head 16) t) (put_at a.head 16 (bes (1 ∷ stamp_key t))) a.head

@@ -1,11 +1,12 @@
 -- What the answers of a batch call stand for.
-use Rattle.error.specs.Answer.{done, refused, Ends, ends}
+use Rattle.error.specs.Answer.{done, and_then, ends}
+use Rattle.error.specs.declared.Ends.{Ends}
+use Rattle.clock.specs.declared.hybrid.HybridClock.{HybridClock}
 use Rattle.merging.specs.Merging.{Report}
 use Rattle.merging.specs.Calls.{Lent}
 use Rattle.merging.specs.Delta.{DeltaReport, DeltaLeft}
 use Rattle.merge.specs.declared.MergeReport.{MergeReport}
-use Rattle.merge.specs.declared.Joined.{Joined}
-use Rattle.merge.specs.declared.Joined.TheVariants as joined
+use Rattle.merge.specs.declared.Merged.{Merged}
 
 abbrev pub report_of : MergeReport → Report
 report_of r =
@@ -20,7 +21,6 @@ report_of r =
     }
 
 -- the answer, and the clock beside every lent byte
-abbrev pub joined_of : Joined → Lent → Ends DeltaReport DeltaLeft
-joined_of (joined.Report report failed clock) lent =
-    ends (done (record { report = report_of report; failed = failed })) (record { lent = lent; hybrid = clock })
-joined_of (joined.Refused refusal clock) lent = ends (refused refusal) (record { lent = lent; hybrid = clock })
+abbrev pub joined_of : Ends Merged HybridClock → Lent → Ends DeltaReport DeltaLeft
+joined_of x lent =
+    ends (and_then x.answer (λ m. done (record { report = report_of m.report; failed = m.failed }))) (record { lent = lent; hybrid = x.left })

@@ -1,6 +1,6 @@
 // A batch merged, no stamp folded: the first part of the batch call, which no crate above can call.
 ghost use Rattle.std.specs.Prelude.{◌≡◌, ◌≤◌, length, replicate};
-ghost use Rattle.error.specs.Answer.{ends};
+ghost use Rattle.error.specs.Answer.{refused, ends};
 ghost use Rattle.replicated_log.specs.Areas.{areas};
 ghost use Rattle.merging.specs.Calls.{batch_call};
 ghost use Rattle.batch.specs.Settings.{limits_of};
@@ -8,19 +8,12 @@ ghost use Rattle.merge.specs.Inside.Decision.{CommitNeeds, Commits, StartsKnown}
 ghost use Rattle.merge.specs.Inside.Applying.{applied_of};
 
 use crate::MergeReport;
-use crate::deciding::{Decision, decide};
+use crate::deciding::decide;
 use batch::MergeLimits;
 use commit::Fates;
 use commit::raw::{hold_rows, log_rows};
 use error::Refusal;
 use words::raw::put_word;
-
-// The report of a batch that was merged, or the refusal.
-#[derive(Clone, Copy)]
-pub(crate) enum Applied {
-    Report(MergeReport),
-    Refused(Refusal),
-}
 
 // Writes what was decided: lines and log, the held rows, their count.
 fn commit(
@@ -44,12 +37,12 @@ fn commit(
 }
 
 // A refused call writes one area, the scratch, and clears it.
-fn refuse(area: &mut [u8], r: Refusal) -> Applied
-    ensures is { result ≡ Applied.Refused r }
+fn refuse(area: &mut [u8], refusal: Refusal) -> Result<MergeReport, Refusal>
+    ensures is { result ≡ refused refusal }
     ensures clear { area.new ≡ replicate (length area.old) 0 }
 {
     words::zero(area);
-    Applied::Refused(r)
+    Err(refusal)
 }
 
 // Applies a batch of remote rows: the report, or the refusal. A refused call leaves all but scratch; scratch is zero
@@ -64,36 +57,30 @@ pub(crate) fn apply_remote_ops(
     scratch: &mut [u8],
     output: &mut [u8],
     starts: &mut [u64],
-) -> Applied
+) -> Result<MergeReport, Refusal>
     requires { 64 ≤ length starts.old }
     ensures leaves { ends (applied_of result) (record { areas = areas log.new held.new head.new; scratch = scratch.new; output = output.new }) ≡ batch_call (areas log.old held.old head.old) (record { limits = limits_of limits; time = time; batch = batch.now; scratch = scratch.old; output = output.old }) }
-    ensures begin { StartsKnown (applied_of result) batch.now starts.new }
+    ensures begin { StartsKnown result batch.now starts.new }
 {
-    let decision = decide(
+    let decision = match decide(
         limits, time, log, held, head, batch, scratch, output, starts,
+    ) {
+        Ok(decision) => decision,
+        Err(r) => return refuse(scratch, r),
+    };
+    let waiting = decision.waiting;
+    let logged = decision.logged;
+    let fates = commit(
+        log, held, head, batch, scratch, output, waiting, logged, time,
     );
-    match decision {
-        Decision::Refused(r) => refuse(scratch, r),
-        Decision::Accepted {
-            waiting,
-            logged,
-            expired,
-            duplicates,
-            dropped,
-        } => {
-            let fates = commit(
-                log, held, head, batch, scratch, output, waiting, logged, time,
-            );
-            words::zero(scratch);
-            Applied::Report(MergeReport {
-                applied: fates.applied as u64,
-                stale: fates.stale as u64,
-                rejected: fates.rejected as u64,
-                duplicates: duplicates as u64,
-                held: waiting as u64,
-                expired: expired as u64,
-                dropped: dropped as u64,
-            })
-        }
-    }
+    words::zero(scratch);
+    Ok(MergeReport {
+        applied: fates.applied as u64,
+        stale: fates.stale as u64,
+        rejected: fates.rejected as u64,
+        duplicates: decision.duplicates as u64,
+        held: waiting as u64,
+        expired: decision.expired as u64,
+        dropped: decision.dropped as u64,
+    })
 }

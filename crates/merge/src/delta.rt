@@ -5,11 +5,12 @@ ghost use Rattle.merging.specs.Delta.{delta_call};
 ghost use Rattle.batch.specs.Settings.{limits_of};
 ghost use Rattle.merge.specs.Reports.{joined_of};
 
-use crate::Joined;
-use crate::call::{Applied, apply_remote_ops};
+use crate::call::apply_remote_ops;
 use crate::folding::fold_stamps;
+use crate::{Joined, Merged};
 use batch::MergeLimits;
 use clock::hybrid::HybridClock;
+use error::Ends;
 
 // Applies a batch of remote rows; where it is accepted, folds the stamp of each of its rows into the hybrid clock, in
 // batch order, at the same time. A fold that fails is counted, and the next goes on. A refused call leaves all but
@@ -27,8 +28,8 @@ pub fn apply_delta(
 ) -> Joined
     ensures { joined_of result (record { areas = areas log.new held.new head.new; scratch = scratch.new; output = output.new }) ≡ delta_call (areas log.old held.old head.old) hybrid (record { limits = limits_of limits; time = time; batch = batch.now; scratch = scratch.old; output = output.old }) }
 {
-    let mut starts = [0u64; 64];
-    let applied = apply_remote_ops(
+    let mut starts = [0; 64];
+    let report = match apply_remote_ops(
         limits,
         time,
         log,
@@ -38,21 +39,22 @@ pub fn apply_delta(
         scratch,
         output,
         &mut starts,
-    );
-    match applied {
-        Applied::Refused(refusal) => Joined::Refused {
-            refusal,
-            clock: hybrid,
-        },
-        Applied::Report(report) => {
-            let folded = fold_stamps(batch, &starts, time, hybrid);
-            let failed = folded.failed;
-            let clock = folded.clock;
-            Joined::Report {
-                report,
-                failed,
-                clock,
-            }
+    ) {
+        Ok(report) => report,
+        Err(r) => {
+            return Ends {
+                answer: Err(r),
+                left: hybrid,
+            };
         }
+    };
+    let folded = fold_stamps(batch, &starts, time, hybrid);
+    let merged = Merged {
+        report,
+        failed: folded.failed,
+    };
+    Ends {
+        answer: Ok(merged),
+        left: folded.clock,
     }
 }

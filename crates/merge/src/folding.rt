@@ -9,9 +9,8 @@ ghost use Rattle.working.specs.Inside.Looks.{batch_row_at};
 ghost use Rattle.merge.specs.Inside.Decision.{Readable, RowsBegin};
 ghost use Rattle.merge.specs.Inside.Applying.{folded_of, one_more};
 
-use clock::hybrid::{HybridClock, Updated};
+use clock::hybrid::HybridClock;
 use clock::stamp::Timestamp;
-use codec::NumberRead;
 use codec::reader::get_varint;
 use stubs::ActorId;
 
@@ -27,23 +26,8 @@ fn count_rows(batch: &[u8]) -> usize
     requires { Readable batch.now }
     ensures { result ≡ length (stamps_read (read_batch batch.now)) }
 {
-    let NumberRead::Value {
-        value: count,
-        next: _,
-    } = get_varint(batch, 0)
-    else {
-        return 0;
-    };
+    let (count, _) = get_varint(batch, 0).unwrap();
     count as usize
-}
-
-// Stands where no stamp can be read.
-fn no_stamp() -> Timestamp {
-    Timestamp {
-        wall_time: 0,
-        logical_counter: 0,
-        actor_id: ActorId(0),
-    }
 }
 
 // The stamp of the row at `at`. Nothing behind it is read.
@@ -51,27 +35,9 @@ fn stamp_at(batch: &[u8], at: usize) -> Timestamp
     requires { is_read (read_row batch.now at) ≡ true }
     ensures { result ≡ (batch_row_at batch.now at).stamp }
 {
-    let NumberRead::Value {
-        value: wall_time,
-        next: at1,
-    } = get_varint(batch, at)
-    else {
-        return no_stamp();
-    };
-    let NumberRead::Value {
-        value: counter,
-        next: at2,
-    } = get_varint(batch, at1)
-    else {
-        return no_stamp();
-    };
-    let NumberRead::Value {
-        value: stamper,
-        next: _,
-    } = get_varint(batch, at2)
-    else {
-        return no_stamp();
-    };
+    let (wall_time, counter_at) = get_varint(batch, at).unwrap();
+    let (counter, stamper_at) = get_varint(batch, counter_at).unwrap();
+    let (stamper, _) = get_varint(batch, stamper_at).unwrap();
     Timestamp {
         wall_time,
         logical_counter: counter as u32,
@@ -84,23 +50,14 @@ fn fold_stamp(before: Folded, stamp: Timestamp, time: u64) -> Folded
     requires { before.failed < 64 }
     ensures { folded_of result ≡ one_more (update_call before.clock stamp time) before.failed }
 {
-    let clock = before.clock;
-    let failed = before.failed;
-    match clock.update(stamp, time) {
-        Updated::Clock(moved) => Folded {
-            clock: moved,
-            failed,
-        },
-        Updated::Refused {
-            refusal: _,
-            clock: kept,
-        } => {
-            let more = failed + 1;
-            Folded {
-                clock: kept,
-                failed: more,
-            }
-        }
+    let folded = before.clock.update(stamp, time);
+    let mut failed = before.failed;
+    if folded.answer.is_err() {
+        failed += 1;
+    }
+    Folded {
+        clock: folded.left,
+        failed,
     }
 }
 
@@ -114,12 +71,9 @@ pub(crate) fn fold_stamps(batch: &[u8], starts: &[u64], time: u64, hybrid: Hybri
         clock: hybrid,
         failed: 0,
     };
-    let mut i: usize = 0;
-    while i < rows {
-        let at = starts[i] as usize;
-        let stamp = stamp_at(batch, at);
+    for i in 0..rows {
+        let stamp = stamp_at(batch, starts[i] as usize);
         folded = fold_stamp(folded, stamp, time);
-        i += 1;
     }
     folded
 }

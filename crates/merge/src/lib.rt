@@ -8,7 +8,7 @@ pub mod delta; // the batch call: both in one
 pub mod floor; // setting the floor
 
 use clock::hybrid::HybridClock;
-use error::Refusal;
+use error::Ends;
 
 // Counts from one accepted batch.
 #[derive(Clone, Copy)]
@@ -29,16 +29,12 @@ pub struct MergeReport {
     pub dropped: u64,
 }
 
-// The report, how many stamps could not be folded, and the clock moved on; or the refusal with the clock as it was.
+// The report of an accepted batch, and how many of its stamps could not be folded.
 #[derive(Clone, Copy)]
-pub enum Joined {
-    Report {
-        report: MergeReport,
-        failed: u64,
-        clock: HybridClock,
-    },
-    Refused {
-        refusal: Refusal,
-        clock: HybridClock,
-    },
+pub struct Merged {
+    pub report: MergeReport,
+    pub failed: u64,
 }
+
+// What a batch call answers, and the clock moved on, as it was where the batch is refused.
+pub type Joined = Ends<Merged, HybridClock>;

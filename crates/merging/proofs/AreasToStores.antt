@@ -6,6 +6,7 @@ use mathlib.Core.List.{List, [], ◌∷◌, ◌++◌, append_assoc, append-nil, 
 use native.Mathlib.Omega.{arith}
 use lib.ListN.{length}
 use Rattle.words.specs.Be.{AllBytes}
+use Rattle.std.specs.declared.result.Result.TheVariants.{Ok, Err}
 use Rattle.error.specs.Answer.{Answer, done, refused, nothing}
 use Rattle.clock.specs.declared.stamp.Timestamp.{Timestamp}
 use Rattle.clock.specs.declared.hybrid.HybridClock.{HybridClock}
@@ -96,8 +97,8 @@ module _ (a : Areas) (o : List Row) (t : List Accepted) (r : Reaches a o t) wher
       → Reaches (ends_by a j c x).left.lent.areas (o ++ when_accepted (ends_by a j c x).answer (rows_read (read_batch c.batch)))
       (t ++ when_accepted (ends_by a j c x).answer (accepting c.time c.limits ∷ []))
   unfolding batch_ends delta_ends
-  after_batch j c now bytes (refused f) e = rw (append-nil o, append-nil t) r
-  after_batch j c now bytes (done m) e =
+  after_batch j c now bytes (Err f) e = rw (append-nil o, append-nil t) r
+  after_batch j c now bytes (Ok m) e =
       let w = call_answered a c m e in
       let h : read_store a ≡ done r.store = r.holds in
       let p : w.store ≡ r.store = cc w.reads in
@@ -113,8 +114,8 @@ module _ (a : Areas) (o : List Row) (t : List Accepted) (r : Reaches a o t) wher
       → (x : Answer (Unit × Store)) → seal_answer a bytes signature ≡ x
       → Reaches (leave a x).left (o ++ when_accepted (leave a x).answer (row_read (read_sealed bytes signature))) t
   unfolding seal_call
-  after_seal bytes signature all signs may (refused f) e = rw (append-nil o) r
-  after_seal bytes signature all signs may (done (nothing, s)) e =
+  after_seal bytes signature all signs may (Err f) e = rw (append-nil o) r
+  after_seal bytes signature all signs may (Ok (nothing, s)) e =
       let h : read_store a ≡ done r.store = r.holds in
       let w = seal_answered a bytes signature nothing s e in
       let seals = seals_here a r.store h bytes signature s all signs w in

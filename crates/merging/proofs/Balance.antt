@@ -8,6 +8,7 @@ use lib.ListN.{length, length-append}
 use lib.Dec.{ltb, leb, eqb}
 use borrow.Author.Tests.{lt-ltb, ne_eqb}
 use Rattle.words.specs.Choice.{pick}
+use Rattle.std.specs.declared.result.Result.TheVariants.{Ok, Err}
 use Rattle.error.specs.Answer.{Answer, done, refused}
 use Rattle.clock.specs.Entries.{get}
 use Rattle.row.specs.Rows.{HeldRow, work_less}
@@ -170,8 +171,8 @@ unfolding batch_call batch_ends delta_call delta_ends
 delta_balance a j c s rows x es er = by_answer (batch_answer a c) refl
   where
     by_answer : (y : Answer Merged) → batch_answer a c ≡ y → (ends_by a j c y).answer ≡ done x → Sums (length s.held) (length rows) x.report
-    by_answer (refused f) e q = absurd (not_refused q)
-    by_answer (done m) e q =
+    by_answer (Err f) e q = absurd (not_refused q)
+    by_answer (Ok m) e q =
         let w = call_answered a c m e in
         let p : w.store ≡ s = cc in
         let o : w.rows ≡ rows = cc in

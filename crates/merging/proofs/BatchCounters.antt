@@ -1,6 +1,6 @@
 -- The counters of an accepted batch's stamps are below the last one: reading keeps them within 32 bits, and validation keeps the last one out.
 use Prim.Native.Nat.{ℕ, ◌+◌, ◌-◌, ◌<◌, ◌^◌}
-use mathlib.Core.Path.{◌≡◌}
+use mathlib.Core.Path.{◌≡◌, sym}
 use mathlib.Core.Bool.{not}
 use mathlib.Core.List.Memᴰ
 use mathlib.Core.List.{List, Memᴰ}
@@ -9,7 +9,7 @@ use lib.Dec.{eqb}
 use borrow.Author.Tests.{eqb-false, not-true}
 use Rattle.words.specs.Names.{Time}
 use Rattle.error.specs.Answer.{done, got}
-use Rattle.codec.proofs.ReadSteps.{after_got}
+use Rattle.codec.proofs.ReadSteps.{after_got, got_value}
 use Rattle.clock.specs.declared.stamp.Timestamp.{Timestamp}
 use Rattle.row.specs.Reading.{read_head, read_deps, read_part, read_closing, BatchRow, batch_row, read_row}
 use Rattle.row.proofs.ReadRows.{head_got}
@@ -35,7 +35,7 @@ row_fits s at b next e =
     let (p, at₃, x₃, e₃) = after_got (read_part s at₂ 256) _ e₂ in
     let (g, at₄, x₄, e₄) = after_got (read_part s at₃ 64) _ e₃ in
     let (c, at₅, x₅, e₅) = after_got (read_closing s at₄) _ e₄ in
-    let q : b ≡ batch_row s h ds p g c = cc in
+    let q : b ≡ batch_row s h ds p g c = sym (got_value e₅) in
     rw q (head_got s at h at₁ x₁).counter
 
 -- ---- refusal 7

@@ -1,6 +1,6 @@
 -- The rows that a batch's bytes bring: where they are read, and what holds of each. They are within capacity, and their outcomes as they may be.
 use Prim.Native.Nat.{ℕ, zero, suc}
-use mathlib.Core.Path.{◌≡◌, ap}
+use mathlib.Core.Path.{◌≡◌, sym, ap}
 use mathlib.Core.Logic.{inl, inr}
 use mathlib.Core.List.Memᴰ
 use mathlib.Core.List.{List, [], ◌∷◌, Memᴰ}
@@ -8,7 +8,7 @@ use lib.Dec.{leb}
 use lib.ListN.{length}
 use Rattle.words.specs.Be.{AllBytes}
 use Rattle.error.specs.Answer.{done, got}
-use Rattle.codec.proofs.ReadSteps.{after_got, need_got}
+use Rattle.codec.proofs.ReadSteps.{after_got, need_got, got_value}
 use Rattle.row.specs.Reading.{BatchRow, number, read_row}
 use Rattle.row.proofs.ReadRows.{read_row_ok}
 use Rattle.merging.specs.Batch.{read_rows, read_batch}
@@ -20,12 +20,12 @@ module _ (s : List ℕ) where
   pub read_length : (n at : ℕ) (rows : List BatchRow) (next : ℕ) → read_rows s at n ≡ got rows next → length rows ≡ n
   unfolding read_rows
   read_length zero at rows next e =
-      let p : rows ≡ [] = cc in
+      let p : rows ≡ [] = sym (got_value e) in
       rw p
   read_length (suc n) at rows next e =
       let (row, at₁, e₁, e₂) = after_got (read_row s at) _ e in
       let (rest, at₂, e₃, e₄) = after_got (read_rows s at₁ n) _ e₂ in
-      let p : rows ≡ row ∷ rest = cc in
+      let p : rows ≡ row ∷ rest = sym (got_value e₄) in
       rw p (ap suc (read_length n at₁ rest at₂ e₃))
 
   -- a batch that was read: the number of its rows, and behind it these, up to the end
@@ -43,12 +43,12 @@ module _ (s : List ℕ) where
     rows_have : (n at : ℕ) (rows : List BatchRow) (next : ℕ) → read_rows s at n ≡ got rows next → (b : BatchRow) → Memᴰ b rows → P b
     unfolding read_rows
     rows_have zero at rows next e b m =
-        let p : rows ≡ [] = cc in
+        let p : rows ≡ [] = sym (got_value e) in
         absurd (Memᴰ.not-nil (rw p at m))
     rows_have (suc n) at rows next e b m =
         let (row, at₁, e₁, e₂) = after_got (read_row s at) _ e in
         let (rest, at₂, e₃, e₄) = after_got (read_rows s at₁ n) _ e₂ in
-        let p : rows ≡ row ∷ rest = cc in
+        let p : rows ≡ row ∷ rest = sym (got_value e₄) in
         elim (Memᴰ.cases_cons (rw p at m)) [ inl q ↦ rw q (holds at row at₁ e₁) | inr k ↦ rows_have n at₁ rest at₂ e₃ b k ]
 
     pub batch_has : (rows : List BatchRow) → read_batch s ≡ done rows → (b : BatchRow) → Memᴰ b rows → P b

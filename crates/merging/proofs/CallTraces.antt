@@ -10,6 +10,7 @@ use lib.ListN.{length}
 use Rattle.words.specs.Be.{AllBytes}
 use Rattle.error.specs.declared.Refusal.{Refusal}
 use Rattle.error.specs.declared.Refusal.TheVariants.{OverCapacity, ShortArea}
+use Rattle.std.specs.declared.result.Result.TheVariants.{Ok, Err}
 use Rattle.error.specs.Answer.{Answer, done, refused, nothing, and_then, unless}
 use Rattle.clock.specs.declared.stamp.Timestamp.{Timestamp}
 use Rattle.clock.proofs.LexicographicOrder.{clash}
@@ -52,16 +53,16 @@ abbrev pub joined : List Row → Accepted → Trace → Trace
 joined rows x t = record { store = t.store; offers = rows ++ t.offers; accepts = x ∷ t.accepts }
 
 abbrev pub trace_batch : Answer Merged → Store → BatchCall → (Store → Trace) → Trace
-trace_batch (done m) s c go = joined (rows_read (read_batch c.batch)) (accepting c.time c.limits) (go m.store)
-trace_batch (refused r) s c go = go s
+trace_batch (Ok m) s c go = joined (rows_read (read_batch c.batch)) (accepting c.time c.limits) (go m.store)
+trace_batch (Err r) s c go = go s
 
 -- a sealing accepts no batch
 abbrev pub offering : List Row → Trace → Trace
 offering rows t = record { store = t.store; offers = rows ++ t.offers; accepts = t.accepts }
 
 abbrev pub trace_seal : Answer (Unit × Store) → Store → List Row → (Store → Trace) → Trace
-trace_seal (done (u, t)) s rows go = offering rows (go t)
-trace_seal (refused f) s rows go = go s
+trace_seal (Ok (u, t)) s rows go = offering rows (go t)
+trace_seal (Err f) s rows go = go s
 
 unfoldable pub trace : ℕ → List Call → Store → Trace
 trace cap [] s = record { store = s; offers = []; accepts = [] }
@@ -106,7 +107,7 @@ module _ (cap : ℕ) (cs : List Call)
 
   by_answer : (x : Answer Merged) → batch_answer a c ≡ x → Traces a (call ∷ cs) (trace_batch x s c (λ s. trace cap cs s))
   unfolding run_calls offered accepted batch_ends delta_ends
-  by_answer (refused f) e =
+  by_answer (Err f) e =
       let t = rest a s h room in
       record {
         holds = rw (after_is _ e) t.holds;
@@ -114,7 +115,7 @@ module _ (cap : ℕ) (cs : List Call)
         offers = rw (offered_is _ e, after_is _ e) t.offers;
         accepts = rw (accepted_is _ e, after_is _ e) t.accepts;
       }
-  by_answer (done m) e =
+  by_answer (Ok m) e =
       let w = call_answered a c m e in
       let t = rest _ m.store (batch_holds a s h c m now bytes w) (batch_room a s h c m now bytes w ∙ room) in
       record {
@@ -126,8 +127,8 @@ module _ (cap : ℕ) (cs : List Call)
 
 -- a batch that is accepted on a store, tested
 unfoldable pub is_accepted : Answer Merged → Bool
-is_accepted (done m) = true
-is_accepted (refused r) = false
+is_accepted (Ok m) = true
+is_accepted (Err r) = false
 
 pub accepted_on : (cap : ℕ) (s : Store) (j : HybridClock) (c : BatchCall) → is_accepted (answer_on cap s c) ≡ true
     → (a : Areas) → read_store a ≡ done s → capacity a.log ≡ cap → (x : DeltaReport) × ((delta_call a j c).answer ≡ done x)
@@ -135,8 +136,8 @@ unfolding is_accepted batch_call batch_ends delta_call delta_ends
 accepted_on cap s j c t a h room = by_test (batch_answer a c) (ap is_accepted (rw room at (answer_on_lem a s h c)) ∙ t)
   where
     by_test : (x : Answer Merged) → is_accepted x ≡ true → (y : DeltaReport) × ((ends_by a j c x).answer ≡ done y)
-    by_test (done m) t = (_, refl)
-    by_test (refused r) t = absurd (clash t refl)
+    by_test (Ok m) t = (_, refl)
+    by_test (Err r) t = absurd (clash t refl)
 
 seal_on_lem : (a : Areas) (s : Store) → read_store a ≡ done s → (bytes signature : List ℕ)
     → seal_answer a bytes signature ≡ seal_on (capacity a.log) s bytes signature
@@ -163,7 +164,7 @@ module _ (cap : ℕ) (cs : List Call)
   by_seal : (x : Answer (Unit × Store)) → seal_answer a bytes signature ≡ x
       → Traces a (sealing ∷ cs) (trace_seal x s (row_read (read_sealed bytes signature)) (λ s. trace cap cs s))
   unfolding run_calls offered accepted accepted_by
-  by_seal (refused f) e =
+  by_seal (Err f) e =
       let t = rest a s h room in
       record {
         holds = rw (sealed_after _ e) t.holds;
@@ -171,7 +172,7 @@ module _ (cap : ℕ) (cs : List Call)
         offers = rw (sealed_offers _ e, sealed_after _ e) t.offers;
         accepts = rw (sealed_after _ e) t.accepts;
       }
-  by_seal (done (nothing, u)) e =
+  by_seal (Ok (nothing, u)) e =
       let w = seal_answered a bytes signature nothing u e in
       let left = seal_room a s h bytes signature u all signs w in
       let t = rest _ u (seal_holds a s h bytes signature u all signs w) (left ∙ room) in

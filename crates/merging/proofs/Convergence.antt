@@ -27,7 +27,7 @@
 -- the clock is the log's. Arrival times and outcomes of held rows are not compared"                         Agree, of the two stores
 use mathlib.Core.Path.{◌≡◌, refl}
 use mathlib.Core.Bool.{true}
-use mathlib.Core.Option.{none}
+use Rattle.std.specs.declared.option.Option.TheVariants.{None}
 use mathlib.Core.List.Memᴰ
 use mathlib.Core.List.{List, []}
 use native.Mathlib.Omega.{arith}
@@ -69,15 +69,15 @@ convergence a₁ a₂ cs₁ cs₂ given₁ given₂ empty₁ empty₂ may₁ may
 
 -- ---- there are empty stores: areas that are long enough, with nothing written to them
 
-pub empty_rules : rules (empty_store none) ≡ true
+pub empty_rules : rules (empty_store None) ≡ true
 unfolding rules derive all never_falls same_entries held_rise no_twice marks_rise floor_ok clock_ok rising word_pairs
 empty_rules = refl
 
-pub empty_areas : (a : Areas) → long_enough a ≡ true → Empty (write_store a (empty_store none))
+pub empty_areas : (a : Areas) → long_enough a ≡ true → Empty (write_store a (empty_store None))
 empty_areas a long =
     record {
-      store = empty_store none;
-      holds = read_write a (empty_store none) long empty_rules (omega arith);
+      store = empty_store None;
+      holds = read_write a (empty_store None) long empty_rules (omega arith);
       log = refl;
       held = refl;
       clock = refl;

@@ -1,11 +1,13 @@
 -- Closed examples of the joined call, computed from the definitions: what folding a batch's stamps does to the hybrid clock, and what is counted.
-use mathlib.Core.Option.{none}
+use Rattle.std.specs.declared.option.Option.TheVariants.{None}
 use Prim.Native.Nat.{ℕ, ◌-◌, ◌^◌}
 use mathlib.Core.Path.{◌≡◌, refl, ap}
 use mathlib.Core.List.{List, [], ◌∷◌, ◌++◌}
 use Rattle.words.specs.Names.{Time}
 use Rattle.error.specs.declared.Refusal.TheVariants.{BadSignature}
-use Rattle.error.specs.Answer.{Answer, done, refused, told_by, Ends}
+use Rattle.std.specs.declared.result.Result.TheVariants.{Ok, Err}
+use Rattle.error.specs.Answer.{Answer, done, refused, told_by}
+use Rattle.error.specs.declared.Ends.{Ends}
 use Rattle.error.specs.Numbers.{told}
 use Rattle.clock.specs.declared.hybrid.HybridClock.{HybridClock}
 use Rattle.clock.specs.Hlc.{greater, receive_l, receive_c, receive_event}
@@ -71,9 +73,9 @@ abbrev seen : Ends DeltaReport DeltaLeft → Answer DeltaReport × HybridClock
 seen x = (x.answer, x.left.hybrid)
 
 -- the call on areas of nothing but zeros is the call on an empty store
-on_blank : (j : HybridClock) (c : BatchCall) → delta_call blank j c ≡ ends_by blank j c (answer_on 4 (empty_store none) c)
+on_blank : (j : HybridClock) (c : BatchCall) → delta_call blank j c ≡ ends_by blank j c (answer_on 4 (empty_store None) c)
 unfolding batch_call delta_call capacity
-on_blank j c = ap (λ (x : Answer Merged). ends_by blank j c x) (answer_on_lem blank (empty_store none) blank_reads c)
+on_blank j c = ap (λ (x : Answer Merged). ends_by blank j c x) (answer_on_lem blank (empty_store None) blank_reads c)
 
 -- 1:1 is logged, 3:2 is held, 1:1 again is a duplicate
 abbrev three_rows : List ℕ
@@ -107,8 +109,8 @@ unfolding folding reading batch_call batch_ends delta_call delta_ends
 no_row_lem a j time = by_answer (batch_answer a (bringing time no_row))
   where
     by_answer : (x : Answer Merged) → (ends_by a j (bringing time no_row) x).left.hybrid ≡ j
-    by_answer (done m) = refl
-    by_answer (refused r) = refl
+    by_answer (Ok m) = refl
+    by_answer (Err r) = refl
 
 -- 02: "each stamp in batch order": 1:1 of stamp 10/5 goes into the log before 2:1 of stamp 10/7, which is rejected; the stamps are folded as the batch has them
 abbrev early : List ℕ

@@ -1,7 +1,7 @@
 -- Demand 3 on two lists of calls over bytes, so that nobody need believe that its hypotheses can be met. Five rows come in two orders; one can't be
 -- logged and stays held; one is prepared and sealed at its desk, and comes to the other in a batch. One batch and one sealing are refused, and one call sets the
 -- floor.
-use mathlib.Core.Option.{none, some}
+use Rattle.std.specs.declared.option.Option.TheVariants.{None, Some}
 use Prim.Native.Nat.{ℕ}
 use mathlib.Core.Path.{◌≡◌, refl, ◌∙◌, sym, ap}
 use mathlib.Core.Logic.{inl, inr}
@@ -136,10 +136,10 @@ after time f =
     }
 
 abbrev pub trace₁ : Trace
-trace₁ = record { store = after 1000 none; offers = r21 ∷ r32 ∷ r12 ∷ r11 ∷ r22 ∷ []; accepts = at 1000 ∷ at 1050 ∷ [] }
+trace₁ = record { store = after 1000 None; offers = r21 ∷ r32 ∷ r12 ∷ r11 ∷ r22 ∷ []; accepts = at 1000 ∷ at 1050 ∷ [] }
 
 abbrev pub trace₂ : Trace
-trace₂ = record { store = after 60 (some (stamp_of 5 1)); offers = r11 ∷ r12 ∷ r22 ∷ r32 ∷ r21 ∷ []; accepts = at 70 ∷ at 60 ∷ at 65 ∷ [] }
+trace₂ = record { store = after 60 (Some (stamp_of 5 1)); offers = r11 ∷ r12 ∷ r22 ∷ r32 ∷ r21 ∷ []; accepts = at 70 ∷ at 60 ∷ at 65 ∷ [] }
 
 -- stands for the definitions that read a batch and trace calls
 unfoldable pub tracing : ℕ
@@ -152,16 +152,16 @@ unfolding computing reading prepare_call prepare_ends prepare_answer writable to
 preparing = 0
 
 -- over the store as values and the batches' bytes
-computed₁ : trace 4 calls₁ (empty_store none) ≡ trace₁
+computed₁ : trace 4 calls₁ (empty_store None) ≡ trace₁
 unfolding tracing
 computed₁ = refl
 
-computed₂ : trace 4 calls₂ (empty_store none) ≡ trace₂
+computed₂ : trace 4 calls₂ (empty_store None) ≡ trace₂
 unfolding tracing
 computed₂ = refl
 
 -- over all 49,992 bytes: they hold an empty store
-pub blank_reads : read_store blank ≡ done (empty_store none)
+pub blank_reads : read_store blank ≡ done (empty_store None)
 unfolding computing read_store long_enough sound_areas counts_ok holds decode_store capacity log_bytes held_bytes head_bytes encode_slots logged_rows encode_marks floor_words floor_at stamp_at marks_at slots_at clock_at column entries clock_of clock_bytes zipped pairs authors_of numbers_of rules derive all never_falls held_rise no_twice marks_rise floor_ok clock_ok rising word_pairs pad bes get64
 blank_reads = refl
 
@@ -172,7 +172,7 @@ room = refl
 -- ---- the hypotheses
 
 pub empty : Empty blank
-empty = record { store = empty_store none; holds = blank_reads; log = refl; held = refl; clock = refl; marks = refl }
+empty = record { store = empty_store None; holds = blank_reads; log = refl; held = refl; clock = refl; marks = refl }
 
 given₁ : AllGiven calls₁
 unfolding can_make all byte_list
@@ -183,10 +183,10 @@ unfolding can_make all byte_list stamp_ok
 given₂ = given_tested calls₂ refl
 
 pub traces₁ : Traces blank calls₁ trace₁
-traces₁ = rw computed₁ at (traced 4 calls₁ given₁ blank (empty_store none) blank_reads room)
+traces₁ = rw computed₁ at (traced 4 calls₁ given₁ blank (empty_store None) blank_reads room)
 
 pub traces₂ : Traces blank calls₂ trace₂
-traces₂ = rw computed₂ at (traced 4 calls₂ given₂ blank (empty_store none) blank_reads room)
+traces₂ = rw computed₂ at (traced 4 calls₂ given₂ blank (empty_store None) blank_reads room)
 
 -- ---- each call may stand: the sealing is of a row that was prepared, and the repeated one is refused
 
@@ -213,10 +213,10 @@ can_prepare =
 
 -- the stores on which the row is sealed, and sealed again
 abbrev before_sealing : Store
-before_sealing = (trace 4 (take 2 calls₂) (empty_store none)).store
+before_sealing = (trace 4 (take 2 calls₂) (empty_store None)).store
 
 abbrev after_sealing : Store
-after_sealing = (trace 4 (take 3 calls₂) (empty_store none)).store
+after_sealing = (trace 4 (take 3 calls₂) (empty_store None)).store
 
 is_first : (y : Row) → Memᴰ y (r11 ∷ []) → y ≡ r11
 is_first y m = elim (Memᴰ.cases_cons m) [ inl q ↦ q | inr k ↦ absurd (Memᴰ.not-nil k) ]
@@ -236,12 +236,12 @@ seals_again a h room = refused_may_stand a _ unsigned12 signature12 OtherCauses 
 
 stand₁ : AllMayStand blank [] calls₁
 unfolding AllStandOn
-stand₁ = all_stand 4 calls₁ given₁ blank (empty_store none) blank_reads room [] (λ _ _ _. tt, (λ _ _ _. tt, (λ _ _ _. tt, tt)))
+stand₁ = all_stand 4 calls₁ given₁ blank (empty_store None) blank_reads room [] (λ _ _ _. tt, (λ _ _ _. tt, (λ _ _ _. tt, tt)))
 
 pub stand₂ : AllMayStand blank [] calls₂
 unfolding tracing AllStandOn
 stand₂ =
-    all_stand 4 calls₂ given₂ blank (empty_store none) blank_reads room []
+    all_stand 4 calls₂ given₂ blank (empty_store None) blank_reads room []
     (λ _ _ _. tt, (λ _ _ _. tt, (seals_own, (seals_again, (λ _ _ _. tt, (λ _ _ _. tt, tt))))))
 
 one : OneContent (offered blank calls₁ ++ offered blank calls₂)
@@ -274,8 +274,8 @@ pub record Shown : Type 0 where
   pub same_log : converges.store₁.log ≡ converges.store₂.log
   pub same_clock : converges.store₁.clock ≡ converges.store₂.clock
   pub same_held : rows_of converges.store₁.held ≡ rows_of converges.store₂.held
-  pub ends₁ : converges.store₁ ≡ after 1000 none
-  pub ends₂ : converges.store₂ ≡ after 60 (some (stamp_of 5 1))
+  pub ends₁ : converges.store₁ ≡ after 1000 None
+  pub ends₂ : converges.store₂ ≡ after 60 (Some (stamp_of 5 1))
 
 pub shown : Shown
 shown =

@@ -1,5 +1,5 @@
 -- Closed examples of preparing and sealing, computed from the definitions: what each rule says on both sides of its boundary, and which refusal comes first.
-use mathlib.Core.Option.{none}
+use Rattle.std.specs.declared.option.Option.TheVariants.{None}
 use Prim.Native.Nat.{ℕ, ◌-◌, ◌^◌}
 use mathlib.Core.Path.{◌≡◌, refl}
 use mathlib.Core.List.{[], ◌∷◌, ◌++◌}
@@ -199,7 +199,7 @@ reads_signed = refl
 
 -- author 10's row of sequence 0, which no clock counts, and so many authors with a watermark, author 10 the first
 abbrev crowded : (marks : ℕ) → Store
-crowded marks = record { log = row_of 1 10 0 [] [] ∷ []; held = []; floor = none; clock = []; compacted = []; marks = marks_from 10 marks }
+crowded marks = record { log = row_of 1 10 0 [] [] ∷ []; held = []; floor = None; clock = []; compacted = []; marks = marks_from 10 marks }
 
 abbrev logs : (cap : ℕ) → Store → Row → Told
 logs cap s r = told_by (seal_row cap s r)
@@ -223,7 +223,7 @@ both =
     record {
       log = r21 ∷ r11 ∷ [];
       held = [];
-      floor = none;
+      floor = None;
       clock = (1, 1) ∷ (2, 1) ∷ [];
       compacted = [];
       marks = record { author = 1; stamp = stamp_of 5 1 } ∷ record { author = 2; stamp = stamp_of 3 2 } ∷ [];
@@ -259,7 +259,7 @@ held_stays : seal_row 10 (holding 900) r11
     (record {
       log = r11 ∷ [];
       held = held 900 r21 ∷ [];
-      floor = none;
+      floor = None;
       clock = (1, 1) ∷ [];
       compacted = [];
       marks = record { author = 1; stamp = stamp_of 5 1 } ∷ [];

@@ -1,5 +1,5 @@
 -- Closed examples of merging, computed from the definitions: what each rule says on both sides of its boundary.
-use mathlib.Core.Option.{none, some}
+use Rattle.std.specs.declared.option.Option.TheVariants.{None, Some}
 use Prim.Native.Nat.{ℕ, zero, suc}
 use mathlib.Core.Path.{◌≡◌, refl}
 use mathlib.Core.Bool.{true, false}
@@ -8,6 +8,7 @@ use lib.ListN.{replicate}
 use Rattle.words.specs.Be.{be64}
 use Rattle.error.specs.declared.Refusal.TheVariants.{Unreadable}
 use Rattle.error.specs.declared.Told.{Told}
+use Rattle.std.specs.declared.result.Result.TheVariants.{Ok, Err}
 use Rattle.error.specs.Answer.{Answer, done, refused, and_then, accepted, told_by}
 use Rattle.error.specs.Numbers.{told}
 use Rattle.clock.specs.declared.stamp.Timestamp.{Timestamp}
@@ -64,20 +65,20 @@ pub record Seen : Type 0 where
   pub held : List (ℕ × ℕ)
 
 abbrev see : Answer Merged → Answer Seen
-see (done m) = done (record { log = ids m.store.log; held = ids (rows_of m.store.held) })
-see (refused r) = refused r
+see (Ok m) = done (record { log = ids m.store.log; held = ids (rows_of m.store.held) })
+see (Err r) = refused r
 
 abbrev counts : Answer Merged → Answer Report
-counts (done m) = done m.report
-counts (refused r) = refused r
+counts (Ok m) = done m.report
+counts (Err r) = refused r
 
 abbrev output : Answer Merged → List ℕ
-output (done m) = m.lines
-output (refused r) = []
+output (Ok m) = m.lines
+output (Err r) = []
 
 -- on an empty store with room for ten logged rows, at time 1,000: one batch, and two, one after the other
 abbrev once : Limits → List BatchRow → Answer Merged
-once l rows = merge 10 l 1000 (empty_store none) rows
+once l rows = merge 10 l 1000 (empty_store None) rows
 
 abbrev twice : Limits → List BatchRow → List BatchRow → Answer Merged
 twice l first second = and_then (once l first) (λ m. merge 10 l 1000 m.store second)
@@ -121,12 +122,12 @@ unfolding computing
 newest_first = refl
 
 -- 01: "A logged row is stale if its stamp is at or below the floor .. All three are logged": one stale at the floor, one applied, one rejected
-all_fates : counts (merge 10 (limits 64 1000) 1000 (empty_store (some (stamp_of 5 1))) (given 0 r11 ∷ given 0 (row_of 6 1 2 [] []) ∷ given 3 (row_of 7 1 3 [] []) ∷ []))
+all_fates : counts (merge 10 (limits 64 1000) 1000 (empty_store (Some (stamp_of 5 1))) (given 0 r11 ∷ given 0 (row_of 6 1 2 [] []) ∷ given 3 (row_of 7 1 3 [] []) ∷ []))
     ≡ done (record { applied = 1; stale = 1; rejected = 1; duplicates = 0; held = 0; expired = 0; dropped = 0 })
 unfolding computing
 all_fates = refl
 
-stale_is_logged : see (merge 10 (limits 64 1000) 1000 (empty_store (some (stamp_of 5 1))) (given 0 r11 ∷ [])) ≡ done (record { log = (1, 1) ∷ []; held = [] })
+stale_is_logged : see (merge 10 (limits 64 1000) 1000 (empty_store (Some (stamp_of 5 1))) (given 0 r11 ∷ [])) ≡ done (record { log = (1, 1) ∷ []; held = [] })
 unfolding computing
 stale_is_logged = refl
 
@@ -171,7 +172,7 @@ unfolding reading
 overlong_count = refl
 
 -- 01: "If it is not its author's next it is dropped": a held row at the clock's number
-dropped_row : counts (merge 10 (limits 64 1000) 1000 (record { log = r11 ∷ []; held = held 900 r11 ∷ []; floor = none; clock = (1, 1) ∷ []; compacted = []; marks = [] }) [])
+dropped_row : counts (merge 10 (limits 64 1000) 1000 (record { log = r11 ∷ []; held = held 900 r11 ∷ []; floor = None; clock = (1, 1) ∷ []; compacted = []; marks = [] }) [])
     ≡ done (record { applied = 0; stale = 0; rejected = 0; duplicates = 0; held = 0; expired = 0; dropped = 1 })
 unfolding computing
 dropped_row = refl
@@ -197,7 +198,7 @@ fates : output (once (limits 64 1000)
 unfolding computing
 fates = refl
 
-stale_line : output (merge 10 (limits 64 1000) 1000 (empty_store (some (stamp_of 5 1))) (closed 1 4 7 r11 ∷ closed 1 4 7 (row_of 6 1 2 [] []) ∷ []))
+stale_line : output (merge 10 (limits 64 1000) 1000 (empty_store (Some (stamp_of 5 1))) (closed 1 4 7 r11 ∷ closed 1 4 7 (row_of 6 1 2 [] []) ∷ []))
     ≡ line 1 1 1 0 ++ line 1 2 5 7
 unfolding computing
 stale_line = refl
@@ -276,8 +277,8 @@ unfolding computing
 author_overflow = refl
 
 -- a log with room for two rows
-log_full : told_by (merge 2 (limits 64 1000) 1000 (empty_store none) (given 0 r11 ∷ given 0 r21 ∷ []))
-    ∷ told_by (merge 2 (limits 64 1000) 1000 (empty_store none) (given 0 r11 ∷ given 0 r21 ∷ given 0 (row_of 8 1 2 [] []) ∷ [])) ∷ []
+log_full : told_by (merge 2 (limits 64 1000) 1000 (empty_store None) (given 0 r11 ∷ given 0 r21 ∷ []))
+    ∷ told_by (merge 2 (limits 64 1000) 1000 (empty_store None) (given 0 r11 ∷ given 0 r21 ∷ given 0 (row_of 8 1 2 [] []) ∷ [])) ∷ []
     ≡ accepted ∷ told 17 0 0 ∷ []
 unfolding computing
 log_full = refl
@@ -294,7 +295,7 @@ marks_from a (suc n) = record { author = a; stamp = stamp_of 1 a } ∷ marks_fro
 -- a new author's first row, on a store whose clock has so many authors, and so many watermarks
 abbrev another : ℕ → ℕ → Told
 another clock marks =
-    told_by (merge 10 (limits 64 1000) 1000 (record { log = []; held = []; floor = none; clock = entries_from 10 clock; compacted = []; marks = marks_from 10 marks })
+    told_by (merge 10 (limits 64 1000) 1000 (record { log = []; held = []; floor = None; clock = entries_from 10 clock; compacted = []; marks = marks_from 10 marks })
     (given 0 r11 ∷ []))
 
 authors_full : another 31 31 ∷ another 32 31 ∷ another 31 32 ∷ [] ≡ accepted ∷ told 18 0 0 ∷ told 18 0 0 ∷ []

@@ -9,6 +9,7 @@ use native.Mathlib.Omega.{arith}
 use Rattle.words.proofs.Words.{lt_or_le}
 use Rattle.words.specs.Be.{AllBytes}
 use lib.ListN.{length}
+use Rattle.std.specs.declared.result.Result.TheVariants.{Ok, Err}
 use Rattle.error.specs.Answer.{Answer, done, refused, nothing}
 use Rattle.clock.specs.declared.hybrid.HybridClock.{HybridClock}
 use Rattle.clock.specs.Entries.{get}
@@ -162,8 +163,8 @@ module _ {o₁ o₂ : List Row} {s₁ s₂ : Store} (L : Loose o₁ s₁) (E : E
       (x : DeltaReport) (brings : CarriesMissing o₂ s₁.log (rows_read (read_batch c.batch))) where
     equal_after : (y : Answer Merged) → batch_answer a c ≡ y → (ends_by a j c y).answer ≡ done x → Equals (ends_by a j c y).left.lent.areas s₂
     unfolding batch_ends delta_ends
-    equal_after (refused r) e q = absurd (not_refused q)
-    equal_after (done m) e q =
+    equal_after (Err r) e q = absurd (not_refused q)
+    equal_after (Ok m) e q =
         let v = call_answered a c m e in
         let went = merge_went _ c.limits c.time s₁ v.rows m (merges_here a s₁ holds c m now bytes v) in
         let same : Agree o₂ o₂ m.store s₂ =

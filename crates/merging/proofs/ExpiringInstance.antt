@@ -1,7 +1,7 @@
 -- Ticket 13 on two lists of calls over bytes, so that nobody need believe that its hypotheses can be met. The second list is that of DemandInstance. The first is
 -- offered three of its five rows, and lets two of them expire. One batch catches up, and a later one lets the row expire again that no store can log.
 use mathlib.Core.Path.{◌≡◌, refl, ◌∙◌, sym, ap}
-use mathlib.Core.Option.{none}
+use Rattle.std.specs.declared.option.Option.TheVariants.{None}
 use mathlib.Core.List.Memᴰ
 use mathlib.Core.List.{List, [], ◌∷◌, ◌++◌}
 use native.Mathlib.Omega.{arith}
@@ -45,7 +45,7 @@ late_trace =
           record {
             log = r11 ∷ [];
             held = held 2010 r32 ∷ [];
-            floor = none;
+            floor = None;
             clock = (1, 1) ∷ [];
             compacted = [];
             marks = record { author = 1; stamp = stamp_of 5 1 } ∷ [];
@@ -54,7 +54,7 @@ late_trace =
       accepts = at 1000 ∷ at 2000 ∷ at 2010 ∷ [];
     }
 
-computed : trace 4 late (empty_store none) ≡ late_trace
+computed : trace 4 late (empty_store None) ≡ late_trace
 unfolding tracing
 computed = refl
 
@@ -63,7 +63,7 @@ unfolding can_make all byte_list
 given = given_tested late refl
 
 traces : Traces blank late late_trace
-traces = rw computed at (traced 4 late given blank (empty_store none) blank_reads room)
+traces = rw computed at (traced 4 late given blank (empty_store None) blank_reads room)
 
 given_catching : AllGiven (catching ∷ [])
 unfolding can_make all byte_list
@@ -73,7 +73,7 @@ given_catching = given_tested (catching ∷ []) refl
 
 pub stand : AllMayStand blank [] late
 unfolding AllStandOn
-stand = all_stand 4 late given blank (empty_store none) blank_reads room [] (λ _ _ _. tt, (λ _ _ _. tt, (λ _ _ _. tt, tt)))
+stand = all_stand 4 late given blank (empty_store None) blank_reads room [] (λ _ _ _. tt, (λ _ _ _. tt, (λ _ _ _. tt, tt)))
 
 one : OneContent (offered blank late ++ offered blank calls₂)
 unfolding computing one_content all
@@ -128,7 +128,7 @@ given_later : AllGiven later_calls
 unfolding can_make all byte_list
 given_later = given_tested later_calls refl
 
-expired_again : (trace 4 later_calls (empty_store none)).store.held ≡ []
+expired_again : (trace 4 later_calls (empty_store None)).store.held ≡ []
 unfolding tracing
 expired_again = refl
 
@@ -145,5 +145,5 @@ shown =
     record {
       caught = caught_up.log ∙ ap (λ (s : Store). s.log) ends₂;
       waits = caught_up.held ∙ ap (λ (s : Store). rows_of s.held) ends₂;
-      later = (_, (traced 4 later_calls given_later blank (empty_store none) blank_reads room).holds, expired_again);
+      later = (_, (traced 4 later_calls given_later blank (empty_store None) blank_reads room).holds, expired_again);
     }

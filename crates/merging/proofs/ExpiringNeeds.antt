@@ -3,7 +3,7 @@
 use Prim.Native.Nat.{ℕ}
 use mathlib.Core.Path.{◌≡◌, refl, ◌∙◌, sym, ap}
 use mathlib.Core.Bool.{true}
-use mathlib.Core.Option.{none}
+use Rattle.std.specs.declared.option.Option.TheVariants.{None}
 use mathlib.Core.List.Memᴰ
 use mathlib.Core.List.{List, [], ◌∷◌, ◌++◌, Memᴰ}
 use native.Mathlib.Omega.{arith}
@@ -67,7 +67,7 @@ equalling a₁ a₂ cs₁ cs₂ fair s₁ s₂ reads₁ reads₂ j c x given e c
 -- ---- two lists on blank areas and a batch, computed
 
 abbrev ending : List Call → Store
-ending cs = (trace 4 cs (empty_store none)).store
+ending cs = (trace 4 cs (empty_store None)).store
 
 abbrev joined : BatchCall → Call
 joined c = Call.batch (own 5 0) c
@@ -77,13 +77,13 @@ record Alike (s t : Store) : Type 0 where
   log : s.log ≡ t.log
   held : rows_of s.held ≡ rows_of t.held
 
-traces : (cs : List Call) → AllGiven cs → Traces blank cs (trace 4 cs (empty_store none))
-traces cs given = traced 4 cs given blank (empty_store none) blank_reads room
+traces : (cs : List Call) → AllGiven cs → Traces blank cs (trace 4 cs (empty_store None))
+traces cs given = traced 4 cs given blank (empty_store None) blank_reads room
 
 module _ (Lists : OnTwoLists) (Carries : OnBatch) (claim : Equalling Lists Carries)
     (cs₁ cs₂ : List Call) (c : BatchCall) (given₁ : AllGiven cs₁) (given₂ : AllGiven cs₂) (given : AllGiven (cs₁ ++ (joined c ∷ []))) where
   claimed : Lists blank blank cs₁ cs₂ → is_accepted (answer_on 4 (ending cs₁) c) ≡ true
-      → Carries (trace 4 cs₂ (empty_store none)).offers (ending cs₁) (rows_read (read_batch c.batch))
+      → Carries (trace 4 cs₂ (empty_store None)).offers (ending cs₁) (rows_read (read_batch c.batch))
       → Alike (ending (cs₁ ++ (joined c ∷ []))) (ending cs₂)
   claimed lists took carries =
       let t₁ = traces cs₁ given₁ in
@@ -181,8 +181,8 @@ one_content_needed claim =
     let given₂ : AllGiven other_second = given_tested _ refl in
     let t₁ = traces other_first given₁ in
     let t₂ = traces other_second given₂ in
-    let stand₁ = all_stand 4 other_first given₁ blank (empty_store none) blank_reads room [] (λ _ _ _. tt, tt) in
-    let stand₂ = all_stand 4 other_second given₂ blank (empty_store none) blank_reads room [] (λ _ _ _. tt, (λ _ _ _. tt, tt)) in
+    let stand₁ = all_stand 4 other_first given₁ blank (empty_store None) blank_reads room [] (λ _ _ _. tt, tt) in
+    let stand₂ = all_stand 4 other_second given₂ blank (empty_store None) blank_reads room [] (λ _ _ _. tt, (λ _ _ _. tt, tt)) in
     let spans : Spans (accepted blank other_second) = rw t₂.accepts (spans_tested _ refl) in
     let within : Within (offered blank other_first) (offered blank other_second) = rw (t₁.offers, t₂.offers) (within_tested _ _ refl) in
     let same = claimed two_contents as_ticket claim other_first other_second (bringing 1000 (1 ∷ bytes11)) given₁ given₂ (given_tested _ refl)
@@ -208,7 +208,7 @@ within_needed claim =
       given₂ = none_given;
       empty₁ = empty;
       empty₂ = empty;
-      may_stand₁ = all_stand 4 alone11 given₁ blank (empty_store none) blank_reads room [] (λ _ _ _. tt, tt);
+      may_stand₁ = all_stand 4 alone11 given₁ blank (empty_store None) blank_reads room [] (λ _ _ _. tt, tt);
       may_stand₂ = AllMayStand.none;
       one_content_lem = rw (traces alone11 given₁).offers (one_tested _ refl);
     } in

@@ -12,6 +12,7 @@ use borrow.Author.Tests.{ltb-true, ltb-false, eqb-true, eqb-false, le-leb}
 use Rattle.words.specs.Names.{Time}
 use Rattle.words.specs.Choice.{saturating}
 use Rattle.words.proofs.Words.{test}
+use Rattle.std.specs.declared.result.Result.TheVariants.{Ok, Err}
 use Rattle.error.specs.Answer.{Answer, done, refused}
 use Rattle.clock.specs.declared.stamp.Timestamp.{Timestamp}
 use Rattle.clock.specs.declared.hybrid.HybridClock.{HybridClock}
@@ -34,8 +35,8 @@ use Rattle.merging.proofs.BatchCounters.{counters_below}
 
 one_more : (x : Answer Unit) (t : Timestamp) (ps : List Timestamp) (f : Folded)
     → length (with_remote x t ps) + (counted x f).failed ≡ suc (length ps + f.failed)
-one_more (done u) t ps f = omega arith
-one_more (refused r) t ps f = omega arith
+one_more (Ok u) t ps f = omega arith
+one_more (Err r) t ps f = omega arith
 
 pub folds_counted : FoldsCounted
 unfolding passed fold
@@ -47,8 +48,8 @@ folds_counted j time (t ∷ ts) =
 -- where none failed, all passed
 none_counted : (x : Answer Unit) (t : Timestamp) (ps ts : List Timestamp) (f : Folded) → (f.failed ≡ 0 → ps ≡ ts)
     → (counted x f).failed ≡ 0 → with_remote x t ps ≡ t ∷ ts
-none_counted (done u) t ps ts f rest e = ap (λ (l : List Timestamp). t ∷ l) (rest e)
-none_counted (refused r) t ps ts f rest e = absurd (omega arith)
+none_counted (Ok u) t ps ts f rest e = ap (λ (l : List Timestamp). t ∷ l) (rest e)
+none_counted (Err r) t ps ts f rest e = absurd (omega arith)
 
 all_passed : (j : HybridClock) (time : Time) (ts : List Timestamp) → (fold j time ts).failed ≡ 0 → passed j time ts ≡ ts
 unfolding passed fold
@@ -63,8 +64,8 @@ abbrev received : Time → List Timestamp → List Event
 received time ts = map (λ t. Event.receive t time) ts
 
 counted_clock : (x : Answer Unit) (f : Folded) → (counted x f).clock ≡ f.clock
-counted_clock (done u) f = refl
-counted_clock (refused r) f = refl
+counted_clock (Ok u) f = refl
+counted_clock (Err r) f = refl
 
 pub folds_receive : FoldsReceive
 unfolding fold run step
@@ -75,9 +76,9 @@ folds_receive h time (t ∷ ts) =
 -- a stamp that is still to pass, or that the history has
 still : (x : Answer Unit) (t s : Timestamp) (ps seen : List Timestamp) → Memᴰ s (with_remote x t ps) ⊎ Memᴰ s seen
     → Memᴰ s ps ⊎ Memᴰ s (with_remote x t seen)
-still (done u) t s ps seen (inl m) = elim (Memᴰ.cases_cons m) [ inl e ↦ inr (Memᴰ.head e) | inr k ↦ inl k ]
-still (done u) t s ps seen (inr m) = inr (Memᴰ.tail m)
-still (refused r) t s ps seen m = m
+still (Ok u) t s ps seen (inl m) = elim (Memᴰ.cases_cons m) [ inl e ↦ inr (Memᴰ.head e) | inr k ↦ inl k ]
+still (Ok u) t s ps seen (inr m) = inr (Memᴰ.tail m)
+still (Err r) t s ps seen m = m
 
 -- the history has it once all are received
 passed_seen : (h : History) (time : Time) (ts : List Timestamp) (s : Timestamp) → Memᴰ s (passed h.clock time ts) ⊎ Memᴰ s h.seen
@@ -110,8 +111,8 @@ module _ (a : Areas) (j : HybridClock) (c : BatchCall) (x : DeltaReport) where
       by_answer : (y : Answer Merged) → (ends_by a j c y).answer ≡ done x
           → (x.failed ≡ (fold j c.time stamps).failed) × ((ends_by a j c y).left.hybrid ≡ (fold j c.time stamps).clock)
           × (m : Merged) × (y ≡ done m)
-      by_answer (refused r) e = absurd (not_refused e)
-      by_answer (done m) e = (cc, refl, m, refl)
+      by_answer (Err r) e = absurd (not_refused e)
+      by_answer (Ok m) e = (cc, refl, m, refl)
 
 pub issued_above : IssuedAbove
 issued_above a j c x accepts pt t e s m =

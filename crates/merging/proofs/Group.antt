@@ -2,12 +2,13 @@
 use Prim.Native.Nat.{◌<◌, ◌≤◌, ◌^◌}
 use mathlib.Core.Path.{◌≡◌, refl, ◌∙◌}
 use mathlib.Core.Bool.{true}
-use mathlib.Core.Option.{none}
+use Rattle.std.specs.declared.option.Option.TheVariants.{None}
 use native.Mathlib.Omega.{arith}
 use lib.ListN.{length, replicate}
 use Rattle.words.specs.Areas.{pad}
 use Rattle.words.specs.Be.{AllBytes}
 use Rattle.words.specs.Lists.{all}
+use Rattle.std.specs.declared.result.Result.TheVariants.{Ok, Err}
 use Rattle.error.specs.Answer.{Answer, done, refused, and_then, told_by}
 use Rattle.clock.specs.declared.hybrid.HybridClock.{HybridClock}
 use Rattle.clock.specs.Hlc.{greater, receive_l, receive_c, receive_event}
@@ -62,8 +63,8 @@ module _ (s : Store) (keeps : rules s ≡ true) (few : length s.log ≤ 1) (j : 
   told_on = rw answers (by_answer (answer_on 1 s c))
     where
       by_answer : (x : Answer Merged) → told_by (ends_by (lending s) j c x).answer ≡ told_by x
-      by_answer (done m) = refl
-      by_answer (refused r) = refl
+      by_answer (Ok m) = refl
+      by_answer (Err r) = refl
 
   held_on : c.time < 2 ^ 64 → AllBytes c.batch
       → held_after (delta_call (lending s) j c) ≡ and_then (answer_on 1 s c) (λ m. done (m.store.held, m.report.expired))
@@ -72,8 +73,8 @@ module _ (s : Store) (keeps : rules s ≡ true) (few : length s.log ≤ 1) (j : 
     where
       by_answer : (x : Answer Merged) → batch_answer (lending s) c ≡ x
           → held_after (ends_by (lending s) j c x) ≡ and_then x (λ m. done (m.store.held, m.report.expired))
-      by_answer (done m) e = rw (batch_holds (lending s) s reads c m now bytes (call_answered (lending s) c m e))
-      by_answer (refused r) e = refl
+      by_answer (Ok m) e = rw (batch_holds (lending s) s reads c m now bytes (call_answered (lending s) c m e))
+      by_answer (Err r) e = refl
 
 -- ---- the cases
 
@@ -99,6 +100,6 @@ p =
       concurrent = refl;
       kept = λ j. held_on (holding 100) holding_rules (omega arith) j _ (omega arith) no_row_lem;
       expired = λ j. held_on (holding 100) holding_rules (omega arith) j _ (omega arith) no_row_lem;
-      passes = λ j. told_on (empty_store none) empty_rules (omega arith) j _;
-      ahead = λ j. told_on (empty_store none) empty_rules (omega arith) j _;
+      passes = λ j. told_on (empty_store None) empty_rules (omega arith) j _;
+      ahead = λ j. told_on (empty_store None) empty_rules (omega arith) j _;
     }

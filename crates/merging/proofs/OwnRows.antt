@@ -12,6 +12,7 @@ use borrow.Author.Tests.{ltb-false, leb-true, le-leb, eq-eqb}
 use Rattle.words.specs.Be.{AllBytes, get64, column}
 use Rattle.words.specs.Areas.{put_at}
 use Rattle.words.proofs.Words.{lt_or_le}
+use Rattle.std.specs.declared.result.Result.TheVariants.{Ok, Err}
 use Rattle.error.specs.Answer.{done, Got, got, bad, after}
 use Rattle.clock.specs.declared.stamp.Timestamp.{Timestamp}
 use Rattle.clock.specs.declared.hybrid.HybridClock.{HybridClock}
@@ -28,7 +29,8 @@ use Rattle.codec.proofs.RoundTrip.{behind, within, part_there}
 use Rattle.codec.proofs.ReadSteps.{on}
 use Rattle.row.specs.Rows.{Row, row_ok, outcome_ok, logged}
 use Rattle.row.specs.Wire.{stamped_bytes, deps_bytes, unsigned_bytes}
-use Rattle.row.specs.Reading.{Head, BatchRow, read_head, read_deps, read_part, read_closing, read_row}
+use Rattle.row.specs.Reading.{BatchRow, read_head, read_deps, read_part, read_closing, read_row}
+use Rattle.row.specs.declared.reader.Head.{Head}
 use Rattle.row.specs.Unsigned.{unsigned_row, read_unsigned}
 use Rattle.row.proofs.DepsPairs.{DepsOk, deps_of_lem, length_pairs_le}
 use Rattle.row.proofs.CanonicalSlot.{HeldGood}
@@ -181,8 +183,8 @@ seals_prepared c r signature can e few =
     rw (bytes_are c r e) (sealed_back r signature (prepared_ok c r can (call_prepared c r e)) few)
 
 after_after : {A B C : Type 0} (g : Got A) (f : A → ℕ → Got B) (h : B → ℕ → Got C) → after (after g f) h ≡ after g (λ a n. after (f a n) h)
-after_after (got a n) f h = refl
-after_after (bad r) f h = refl
+after_after (Ok (a, n)) f h = refl
+after_after (Err r) f h = refl
 
 -- what is read behind the payload, and with it
 module _ (s : List ℕ) where

@@ -1,5 +1,5 @@
 -- An accepted batch and a floor setting keep the store's rules.
-use mathlib.Core.Option.{none, some}
+use Rattle.std.specs.declared.option.Option.TheVariants.{None, Some}
 use Prim.Native.Nat.{ℕ, ◌≤◌, ◌<◌, ◌^◌}
 use mathlib.Core.Path.{◌≡◌, refl, sym}
 use mathlib.Core.Logic.{inl, inr}
@@ -234,8 +234,8 @@ module _ (cap : ℕ) (l : Limits) (time : ℕ) (s : Store) (rows : List BatchRow
 
 raised_ok : (f : MaybeStamp) (t : Timestamp) → floor_ok f ≡ true → stamp_ok t ≡ true → floor_ok (raise_floor f t) ≡ true
 unfolding raise_floor above_floor floor_ok
-raised_ok none t o h = h
-raised_ok (some f) t o h = elim (stamp_less f t) as (λ b. floor_ok (pick b (some t) (some f)) ≡ true) [ true ↦ h | false ↦ o ]
+raised_ok None t o h = h
+raised_ok (Some f) t o h = elim (stamp_less f t) as (λ b. floor_ok (pick b (Some t) (Some f)) ≡ true) [ true ↦ h | false ↦ o ]
 
 pub floor_rules : (s : Store) (t : Timestamp) → stamp_ok t ≡ true → rules s ≡ true → rules (with_floor s t) ≡ true
 floor_rules s t h sound =

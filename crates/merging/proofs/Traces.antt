@@ -11,7 +11,9 @@ use lib.Dec.{leb, eqb}
 use borrow.Author.Tests.{leb-true, eqb-true}
 use Rattle.error.specs.declared.Refusal.{Refusal}
 use Rattle.words.specs.Names.{Time}
-use Rattle.error.specs.Answer.{Answer, done, refused, and_then, unless, nothing, Ends, Got, got, bad}
+use Rattle.std.specs.declared.result.Result.TheVariants.{Ok, Err}
+use Rattle.error.specs.Answer.{Answer, done, refused, and_then, unless, nothing, Got, got, bad}
+use Rattle.error.specs.declared.Ends.{Ends}
 use Rattle.clock.specs.declared.hybrid.HybridClock.{HybridClock}
 use Rattle.row.specs.Rows.{Row}
 use Rattle.row.specs.Reading.{BatchRow}
@@ -40,16 +42,16 @@ unless_done true r x e = (refl, e)
 unless_done false r x e = absurd (not_refused e)
 
 pub then_done : {A B : Type 0} (x : Answer A) (f : A → Answer B) {b : B} → and_then x f ≡ done b → (a : A) × (x ≡ done a) × (f a ≡ done b)
-then_done (done a) f e = (a, refl, e)
-then_done (refused r) f e = absurd (not_refused e)
+then_done (Ok a) f e = (a, refl, e)
+then_done (Err r) f e = absurd (not_refused e)
 
 -- what was read, up to the end
 pub whole_got : {A : Type 0} (s : List ℕ) (g : Got A) (a : A) → whole s g ≡ done a → g ≡ got a (length s)
-whole_got s (got x at) a e =
+whole_got s (Ok (x, at)) a e =
     let (t, f) = unless_done (eqb at (length s)) _ _ e in
     let p : x ≡ a = cc in
     rw (p, eqb-true at (length s) t)
-whole_got s (bad r) a e = absurd (not_refused e)
+whole_got s (Err r) a e = absurd (not_refused e)
 
 -- where all rows pass, each does
 pub each_passes : (l : Limits) (time : Time) (rows : List BatchRow) {u : Unit} → validate_all l time rows ≡ done u

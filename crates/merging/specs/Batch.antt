@@ -6,6 +6,7 @@ use Rattle.words.specs.Choice.{saturating}
 use Rattle.stubs.specs.declared.ActorId.{ActorId}
 use Rattle.error.specs.declared.Refusal.{Refusal}
 use Rattle.error.specs.declared.Refusal.TheVariants.{Unreadable, OverCapacity, ZeroSequence, ForeignStamp, SpentCounter, PayloadTooLarge, TooManyCauses, OwnFuture, AheadOfTime, BadSignature}
+use Rattle.std.specs.declared.result.Result.TheVariants.{Ok, Err}
 use Rattle.error.specs.Answer.{Answer, done, refused, nothing, and_then, unless, Got, got, bad, after, need}
 use Rattle.row.specs.Rows.{Row}
 use Rattle.row.specs.Reading.{number, BatchRow, read_row}
@@ -39,8 +40,8 @@ read_rows s at (suc n) =
 
 -- 3: 01: "bytes left over"
 abbrev pub whole : {A : Type 0} → Bytes → Got A → Answer A
-whole s (got a at) = unless (eqb at (length s)) Unreadable (done a)
-whole s (bad r) = refused r
+whole s (Ok (a, at)) = unless (eqb at (length s)) Unreadable (done a)
+whole s (Err r) = refused r
 
 -- 01: "a varint count, then rows, then nothing"
 unfoldable pub read_batch : Bytes → Answer (List BatchRow)

@@ -1,13 +1,15 @@
 -- Over whole areas: a batch merged, and setting the floor. 01: "Order in a batch call: 4 for settings, 2 for store areas, then 1; 3 and 4 by the first
 -- fault in reading; 2 for output and scratch; 5 to 12 row by row in that order; 13 by row; 14 to 18."
 use Rattle.std.specs.Prelude.{ℕ, ◌+◌, ◌*◌, Bool, ◌&&◌, length, replicate, leb}
-use Rattle.std.proofs.Math.Option.{some}
+use Rattle.std.specs.declared.option.Option.TheVariants.{Some}
 use Rattle.words.specs.Names.{Time, Bytes, Area}
 use Rattle.words.specs.Sizes.{slot_size, line_size}
 use Rattle.words.specs.Choice.{pick}
 use Rattle.words.specs.Areas.{put_at}
 use Rattle.error.specs.declared.Refusal.TheVariants.{OverCapacity, ShortArea}
-use Rattle.error.specs.Answer.{Answer, done, refused, nothing, and_then, unless, Ends, ends}
+use Rattle.std.specs.declared.result.Result.TheVariants.{Ok, Err}
+use Rattle.error.specs.Answer.{Answer, done, refused, nothing, and_then, unless, ends}
+use Rattle.error.specs.declared.Ends.{Ends}
 use Rattle.clock.specs.declared.stamp.Timestamp.{Timestamp}
 use Rattle.replicated_log.specs.Store.{MaybeStamp, Store}
 use Rattle.replicated_log.specs.Areas.{Areas, capacity, read_store, write_store, leave}
@@ -44,10 +46,10 @@ pub record Lent : Type 0 where
 
 -- 01: "A refusal changes no lent byte except that scratch is always all zero after the call."; of the output, 01: "Later bytes stay."
 unfoldable pub batch_ends : Areas → BatchCall → Answer Merged → Ends Report Lent
-batch_ends a c (done m) =
+batch_ends a c (Ok m) =
     ends (done m.report)
     (record { areas = write_store a m.store; scratch = replicate (length c.scratch) 0; output = put_at c.output 0 m.lines })
-batch_ends a c (refused r) =
+batch_ends a c (Err r) =
     ends (refused r)
     (record { areas = a; scratch = replicate (length c.scratch) 0; output = c.output })
 
@@ -58,7 +60,7 @@ batch_call a c = batch_ends a c (batch_answer a c)
 
 -- rs: "It never lowers it"
 unfoldable pub raise_floor : MaybeStamp → Timestamp → MaybeStamp
-raise_floor floor t = pick (above_floor floor t) (some t) floor
+raise_floor floor t = pick (above_floor floor t) (Some t) floor
 
 abbrev pub with_floor : Store → Timestamp → Store
 with_floor s t =

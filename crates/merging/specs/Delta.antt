@@ -1,7 +1,9 @@
 -- Document 02, ticket 2: merging a batch and folding its stamps into the hybrid clock as one call. 02: "These become one operation, as in `Replica::apply_delta`"
 use Rattle.std.specs.Prelude.{ℕ, suc, List, [], ◌∷◌, map}
 use Rattle.words.specs.Names.{Time}
-use Rattle.error.specs.Answer.{Answer, done, refused, and_then, Ends, ends}
+use Rattle.std.specs.declared.result.Result.TheVariants.{Ok, Err}
+use Rattle.error.specs.Answer.{Answer, done, refused, and_then, ends}
+use Rattle.error.specs.declared.Ends.{Ends}
 use Rattle.clock.specs.declared.stamp.Timestamp.{Timestamp}
 use Rattle.clock.specs.declared.hybrid.HybridClock.{HybridClock}
 use Rattle.clock.specs.Hybrid.{update_call}
@@ -18,8 +20,8 @@ pub record Folded : Type 0 where
 
 -- one fold, and those after it. 02: "A fold that fails is counted and the next goes on."
 abbrev pub counted : Answer Unit → Folded → Folded
-counted (done u) f = f
-counted (refused r) f = record { clock = f.clock; failed = suc f.failed }
+counted (Ok u) f = f
+counted (Err r) f = record { clock = f.clock; failed = suc f.failed }
 
 -- each stamp is received as `update_call` has it, all at one time; one that fails, by 20 or 19, leaves the clock
 unfoldable pub fold : HybridClock → Time → List Timestamp → Folded
@@ -28,13 +30,13 @@ fold j time (t ∷ ts) = counted (update_call j t time).answer (fold (update_cal
 
 -- the stamps of a batch, one for each of its rows: 02: "duplicates and held rows too"
 abbrev pub stamps_read : Answer (List BatchRow) → List Timestamp
-stamps_read (done rows) = map (λ b. b.row.stamp) rows
-stamps_read (refused r) = []
+stamps_read (Ok rows) = map (λ b. b.row.stamp) rows
+stamps_read (Err r) = []
 
 -- 02: "the batch is accepted, then each stamp in batch order is folded at the batch's time": of a refused batch nothing is folded
 abbrev pub folded : HybridClock → BatchCall → Answer Report → Folded
-folded j c (done report) = fold j c.time (stamps_read (read_batch c.batch))
-folded j c (refused r) = record { clock = j; failed = 0 }
+folded j c (Ok report) = fold j c.time (stamps_read (read_batch c.batch))
+folded j c (Err r) = record { clock = j; failed = 0 }
 
 -- what an accepted call tells
 pub record DeltaReport : Type 0 where

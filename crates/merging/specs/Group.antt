@@ -1,10 +1,11 @@
 -- Document 01, "Proved as a group (P)": its cases in one statement, said of the calls. Its proof stands in proofs/Group.antt.
 use Rattle.std.specs.Prelude.{ℕ, ◌-◌, ◌^◌, ◌≡◌, List, [], ◌∷◌, ◌++◌, replicate}
-use Rattle.std.proofs.Math.Option.{none}
+use Rattle.std.specs.declared.option.Option.TheVariants.{None}
 use Rattle.words.specs.Names.{Author, Seq, Time, Bytes, Clock}
 use Rattle.error.specs.declared.Refusal.TheVariants.{Overlong}
 use Rattle.error.specs.Numbers.{told}
-use Rattle.error.specs.Answer.{Answer, done, nothing, and_then, accepted, told_by, Ends, ends, bad}
+use Rattle.error.specs.Answer.{Answer, done, nothing, and_then, accepted, told_by, ends, bad}
+use Rattle.error.specs.declared.Ends.{Ends}
 use Rattle.clock.specs.declared.stamp.Timestamp.{Timestamp}
 use Rattle.clock.specs.declared.hybrid.HybridClock.{HybridClock}
 use Rattle.clock.specs.declared.vector.CausalOrder.TheVariants.{Concurrent}
@@ -67,7 +68,7 @@ r21 = row_of 3 2 1 ((1, 1) ∷ []) []
 
 -- a store that holds it since it arrived
 abbrev pub holding : (arrival : Time) → Store
-holding arrival = record { log = []; held = held arrival r21 ∷ []; floor = none; clock = []; compacted = []; marks = [] }
+holding arrival = record { log = []; held = held arrival r21 ∷ []; floor = None; clock = []; compacted = []; marks = [] }
 
 -- areas with room for one logged row, this store written into them
 abbrev pub lending : Store → Areas
@@ -108,5 +109,5 @@ pub record P : Type 0 where
   pub kept : (j : HybridClock) → held_after (calling j 150 (holding 100) no_row) ≡ done (held 100 r21 ∷ [], 0)
   pub expired : (j : HybridClock) → held_after (calling j 151 (holding 100) no_row) ≡ done ([], 1)
   -- 01: "time 1,000, drift 60,000: 61,000 passes, 61,001 is 11"
-  pub passes : (j : HybridClock) → told_by (calling j 1000 (empty_store none) (one_row (row_of 61000 1 1 [] []))).answer ≡ accepted
-  pub ahead : (j : HybridClock) → told_by (calling j 1000 (empty_store none) (one_row (row_of 61001 1 1 [] []))).answer ≡ told 11 1 1
+  pub passes : (j : HybridClock) → told_by (calling j 1000 (empty_store None) (one_row (row_of 61000 1 1 [] []))).answer ≡ accepted
+  pub ahead : (j : HybridClock) → told_by (calling j 1000 (empty_store None) (one_row (row_of 61001 1 1 [] []))).answer ≡ told 11 1 1

@@ -1,6 +1,6 @@
 -- Merging over a store as values: document 01, "Merging, from `src/merge.rs`", steps 1 to 5.
 use Rattle.std.specs.Prelude.{ℕ, zero, suc, ◌+◌, ◌-◌, Bool, true, ◌&&◌, List, [], ◌∷◌, ◌++◌, map, length, ltb, leb, eqb}
-use Rattle.std.proofs.Math.Option.{none, some}
+use Rattle.std.specs.declared.option.Option.TheVariants.{None, Some}
 use Rattle.words.specs.Names.{Author, Seq, Time, Bytes, Clock}
 use Rattle.words.specs.Be.{be64}
 use Rattle.words.specs.Choice.{pick}
@@ -150,8 +150,8 @@ settle s a = drain (length a.working) (to_drain s a)
 
 -- a stamp is above a floor; where there is none, every stamp is
 unfoldable pub above_floor : MaybeStamp → Timestamp → Bool
-above_floor none t = true
-above_floor (some floor) t = stamp_less floor t
+above_floor None t = true
+above_floor (Some floor) t = stamp_less floor t
 
 -- 01: "A logged row is stale if its stamp is at or below the floor; else its outcome decides applied or rejected."; "fate (0 applied, 1 stale, 2 to 5 for
 -- outcomes 1 to 4)"

@@ -5,6 +5,7 @@ use mathlib.Core.List.{List, [], ◌∷◌, ◌++◌, map, Memᴰ, Sublistᴰ}
 use Rattle.words.specs.Names.{Author, Seq, Time, Bytes}
 use Rattle.words.specs.Be.{AllBytes}
 use Rattle.words.specs.Lists.{count_if}
+use Rattle.std.specs.declared.result.Result.TheVariants.{Ok, Err}
 use Rattle.error.specs.Answer.{Answer, done, refused, nothing}
 use Rattle.clock.specs.declared.stamp.Timestamp.{Timestamp}
 use Rattle.clock.specs.declared.hybrid.HybridClock.{HybridClock}
@@ -64,17 +65,17 @@ unfoldable pub batch_rows : List BatchRow → List Row
 batch_rows bs = map (λ b. b.row) bs
 
 abbrev pub rows_read : Answer (List BatchRow) → List Row
-rows_read (done bs) = batch_rows bs
-rows_read (refused r) = []
+rows_read (Ok bs) = batch_rows bs
+rows_read (Err r) = []
 
 -- the row of a sealing
 abbrev pub row_read : Answer Row → List Row
-row_read (done r) = r ∷ []
-row_read (refused f) = []
+row_read (Ok r) = r ∷ []
+row_read (Err f) = []
 
 abbrev pub when_accepted : {A B : Type 0} → Answer A → List B → List B
-when_accepted (done x) l = l
-when_accepted (refused r) l = []
+when_accepted (Ok x) l = l
+when_accepted (Err r) l = []
 
 -- 01: "A row is offered to a store when an accepted batch of its list holds it"; 02: "A desk's own row, sealed as prepared, counts as offered to its store": every
 -- accepted sealing; `AllMayStand` asks `Own` of each

@@ -1,14 +1,15 @@
 -- The rows of a Delta, counted and written turn by turn.
 use Prim.Native.Nat.{ℕ, ◌+◌, ◌*◌, ◌/◌, ◌≤◌, ◌<◌}
 use mathlib.Core.Path.{◌≡◌, refl, sym, ◌∙◌, ap}
-use mathlib.Core.Bool.{Bool, true, false, not}
+use mathlib.Core.Bool.{Bool, true, false}
 use mathlib.Core.List.{List, [], ◌∷◌, ◌++◌, append_assoc, append-nil}
 use native.Mathlib.Omega.{arith}
 use lib.ListN.{length, length-append}
-use borrow.Author.Tests.{le-leb, lt-leb, not-true, not-false}
+use borrow.Author.Tests.{le-leb, lt-leb}
 use Rattle.words.proofs.Puts.{put_nil}
 use Rattle.error.specs.declared.Refusal.TheVariants.{ShortArea, UnsoundStore, OverCapacity}
-use Rattle.error.specs.Answer.{refused, Ends, ends}
+use Rattle.error.specs.Answer.{refused, ends}
+use Rattle.error.specs.declared.Ends.{Ends}
 use Rattle.codec.specs.Leb128.{shortest}
 use Rattle.codec.specs.Writing.{write_call}
 use Rattle.codec.specs.Inside.EnvelopeParts.{Stored}
@@ -23,7 +24,7 @@ use Rattle.row.specs.declared.Held.{Held}
 use Rattle.row.proofs.WireLengths.{length_signed}
 use Rattle.replicated_log.specs.Areas.{rows_of}
 use Rattle.replicated_log.specs.Calls.{slots_ok}
-use Rattle.replicated_log.specs.Inside.StoreChanges.{Parts, rows_in}
+use Rattle.replicated_log.specs.Inside.StoreChanges.{rows_in}
 use Rattle.replicated_log.proofs.Calls.Restoration.{rows_from, rows_next, rows_split, length_rows_in}
 use Rattle.message.specs.Messages.{delta, rows_bytes, message_bytes}
 use Rattle.message.specs.Calls.{lent_rows, encode_delta}
@@ -55,39 +56,32 @@ unfolding held_of
 row_read s h e = ap (λ (h : HeldRow). h.row) e
 
 -- ---- counting
-pub record Counted (s : List ℕ) (n len i : ℕ) : Type 0 where
-  pub upto : i ≤ n
+pub record Counted (s : List ℕ) (len i : ℕ) : Type 0 where
   pub same : len ≡ length (rows_bytes (rows_in s i))
   pub few : len ≤ 912 * i
 
-pub counted_none : (s : List ℕ) (n : ℕ) → Counted s n 0 0
+pub counted_none : (s : List ℕ) → Counted s 0 0
 unfolding rows_bytes rows_of slots_at
-counted_none s n = record { upto = omega arith; same = refl; few = omega arith }
+counted_none s = record { same = refl; few = omega arith }
 
-module _ {s : List ℕ} {n len i : ℕ} (g : Counted s n len i) where
-  pub counted_more : (h : Held) {l : ℕ} → i < n → held_of s h ≡ decode_held (slot_at s (704 * i)) → OpFits s h.op
-      → ((src : List ℕ) → OpFits src h.op → l ≡ signed_len (row_of src h.op)) → l ≤ 912 → Counted s n (len + l) (i + 1)
-  counted_more h {l} k e f p q =
+module _ {s : List ℕ} {len i : ℕ} (g : Counted s len i) where
+  pub counted_more : (h : Held) {l : ℕ} → held_of s h ≡ decode_held (slot_at s (704 * i)) → OpFits s h.op
+      → ((src : List ℕ) → OpFits src h.op → l ≡ signed_len (row_of src h.op)) → l ≤ 912 → Counted s (len + l) (i + 1)
+  counted_more h {l} e f p q =
       let a : l ≡ length (signed_bytes (row_at s i)) = p s f ∙ sym (length_signed (row_of s h.op)) ∙ ap (λ (r : Row). length (signed_bytes r)) (row_read s h e) in
       let b : length (rows_bytes (rows_in s (i + 1))) ≡ length (rows_bytes (rows_in s i)) + length (signed_bytes (row_at s i)) =
       ap length (bytes_next s i) ∙ length-append (rows_bytes (rows_in s i)) (signed_bytes (row_at s i)) in
-      record { upto = omega arith; same = omega (arith, g.same); few = omega (arith, g.few) }
-
-  pub counted_all : n ≤ i → (len ≡ length (rows_bytes (rows_in s n))) × (len ≤ 912 * n)
-  counted_all h =
-      let z : i ≡ n = omega (arith, g.upto) in
-      (g.same ∙ rw z, omega (arith, g.few))
+      record { same = omega (arith, g.same); few = omega (arith, g.few) }
 
 -- ---- writing
 pub record Going (s : List ℕ) (at : ℕ) (rows : List ℕ) (n : ℕ) (t : List ℕ) (next i : ℕ) : Type 0 where
-  pub upto : i ≤ n
   pub room : at + length (rows_bytes (rows_in rows n)) ≤ length s
   pub same : length t ≡ length s
   pub stored : Stored s at (rows_bytes (rows_in rows i)) next t
 
 pub start : (s : List ℕ) (at : ℕ) (rows : List ℕ) (n : ℕ) → at + length (rows_bytes (rows_in rows n)) ≤ length s → Going s at rows n s at 0
 unfolding rows_bytes rows_of slots_at
-start s at rows n r = record { upto = omega arith; room = r; same = refl; stored = record { past = omega arith; output = put_nil s at } }
+start s at rows n r = record { room = r; same = refl; stored = record { past = omega arith; output = put_nil s at } }
 
 module _ {s : List ℕ} {at : ℕ} {rows : List ℕ} {n : ℕ} {t : List ℕ} {next i : ℕ} (g : Going s at rows n t next i) where
   module _ (h : Held) (k : i < n) (e : held_of rows h ≡ decode_held (slot_at rows (704 * i))) where
@@ -103,12 +97,7 @@ module _ {s : List ℕ} {at : ℕ} {rows : List ℕ} {n : ℕ} {t : List ℕ} {n
     pub again : {end : ℕ} {u : List ℕ} → Stored t next (signed_bytes (row_of rows h.op)) end u → Going s at rows n u end (i + 1)
     again d =
         let a = stored_then g.stored d more_room in
-        record { upto = omega arith; room = g.room; same = stored_length a more_room; stored = rw more a }
-
-  pub all_stored : n ≤ i → Stored s at (rows_bytes (rows_in rows n)) next t
-  all_stored h =
-      let z : i ≡ n = omega (arith, g.upto) in
-      rw (← z) g.stored
+        record { room = g.room; same = stored_length a more_room; stored = rw more a }
 
 -- ---- the message
 module _ (rows : List ℕ) (n : ℕ) where
@@ -150,18 +139,15 @@ module _ (out rows : List ℕ) (count : ℕ) where
   delta_short h = rw (lt-leb (704 * count) (length rows) (omega arith))
 
   module _ (h : count ≤ length rows / 704) {b : Bool} (k : b ≡ slots_ok rows 0 count) where
-    pub delta_unsound : not b ≡ true → ends (refused UnsoundStore) out ≡ encode_delta out rows count
+    pub delta_unsound : b ≡ false → ends (refused UnsoundStore) out ≡ encode_delta out rows count
     unfolding encode_delta lent_rows
-    delta_unsound f = rw (le-leb (704 * count) (length rows) (slots_within h), ← k, not-true b f)
+    delta_unsound f = rw (le-leb (704 * count) (length rows) (slots_within h), ← k, f)
 
-    module _ (f : not b ≡ false) where
-      pub delta_parts : Parts rows count
-      delta_parts = record { long = slots_within h; ok = sym k ∙ not-false b f }
-
+    module _ (f : b ≡ true) where
       pub delta_many : 64 < count → ends (refused OverCapacity) out ≡ encode_delta out rows count
       unfolding encode_delta lent_rows
-      delta_many l = rw (le-leb (704 * count) (length rows) (slots_within h), ← k, not-false b f, lt-leb count 64 l)
+      delta_many l = rw (le-leb (704 * count) (length rows) (slots_within h), ← k, f, lt-leb count 64 l)
 
       pub delta_written : {w : Ends ℕ (List ℕ)} → count ≤ 64 → w ≡ write_call out 0 (message_bytes (delta (rows_in rows count))) → w ≡ encode_delta out rows count
       unfolding encode_delta lent_rows
-      delta_written l e = rw (le-leb (704 * count) (length rows) (slots_within h), ← k, not-false b f, le-leb count 64 l) e
+      delta_written l e = rw (le-leb (704 * count) (length rows) (slots_within h), ← k, f, le-leb count 64 l) e

@@ -1,3 +1,4 @@
+pub mod Views
 pub mod CountedReads
 pub mod ClockPairs
 pub mod SignedRows

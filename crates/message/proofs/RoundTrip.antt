@@ -9,7 +9,7 @@ use lib.ListN.{length, drop, length-append}
 use borrow.Author.Tests.{le-ltb, le-leb, leb-true, ltb-true, ne_eqb}
 use Rattle.words.specs.Lists.{all}
 use Rattle.words.proofs.Conjunction.{and_left, and_right}
-use Rattle.error.specs.Answer.{done, got}
+use Rattle.error.specs.Answer.{done, nothing, got}
 use Rattle.clock.specs.Entries.{rising, get, put, enter}
 use Rattle.codec.specs.Leb128.{shortest}
 use Rattle.codec.specs.Reading.{get_u8, part_of, finish}
@@ -201,7 +201,7 @@ rows_there s at (r ∷ rs) q h e =
     (on _ (sym (rows_there s (at + length (signed_bytes r)) rs q (and_right (row_ok r) (all row_ok rs) h) k)) (rw m))
 
 -- ---- messages
-ended : (s : List ℕ) (at : ℕ) → length s ≤ at → finish s at ≡ done at
+ended : (s : List ℕ) (at : ℕ) → length s ≤ at → finish s at ≡ done nothing
 unfolding finish
 ended s at h = rw (le-leb (length s) at h)
 

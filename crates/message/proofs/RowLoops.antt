@@ -7,64 +7,55 @@ use lib.ListN.{length, length-append}
 use borrow.Rule.Slice.PartMut.{put_mid}
 use Rattle.words.specs.Areas.{put_at}
 use Rattle.words.proofs.Puts.{put_nil, put_put, length_put}
+use Rattle.std.specs.Result.{IsOk}
 use Rattle.error.specs.declared.Refusal.{Refusal}
-use Rattle.error.specs.Answer.{nothing, Got, got, bad, after}
+use Rattle.std.specs.declared.result.Result.TheVariants.{Ok, Err}
+use Rattle.error.specs.Answer.{done, refused, Got, got, bad, after}
 use Rattle.codec.proofs.ReadSteps.{after_got, got_value, got_next}
 use Rattle.row.specs.Rows.{Row, HeldRow, logged}
 use Rattle.row.specs.Slots.{encode_held, encode_slots}
-use Rattle.row.specs.Values.{row_of, OpFits, ended_by}
+use Rattle.row.specs.Values.{row_of, OpFits}
 use Rattle.row.specs.Inside.SlotParts.{held_of}
 use Rattle.row.specs.declared.StampedOperation.{StampedOperation}
 use Rattle.row.specs.declared.Held.{Held}
-use Rattle.row.specs.declared.Reading.{Reading}
-use Rattle.row.specs.declared.Reading.TheVariants.{Read, Refused}
 use Rattle.row.proofs.Operations.{fits_length, slot_put}
 use Rattle.replicated_log.specs.Areas.{logged_rows}
 use Rattle.message.specs.Reading.{get_signed, get_rows}
-use Rattle.message.specs.Inside.ReaderParts.{checked, Readable, rows_in}
+use Rattle.message.specs.Inside.ReaderParts.{signed_read_of, checked, Readable, rows_in}
 
 -- ---- tested
 kept : (row : Row) (g : Got (List Row)) → checked (after g (λ rows next. got (row ∷ rows) next)) ≡ checked g
 unfolding checked
-kept row (got rs n) = refl
-kept row (bad k) = refl
+kept row (Ok (rs, n)) = refl
+kept row (Err k) = refl
 
-checked_by : (s : List ℕ) (n : ℕ) (g : Got Row)
-    → checked (after g (λ row at. after (get_rows s n at) (λ rows at. got (row ∷ rows) at))) ≡ after g (λ row at. checked (get_rows s n at))
-unfolding checked
-checked_by s n (got row m) = kept row (get_rows s n m)
-checked_by s n (bad k) = refl
+module _ (s : List ℕ) (n at : ℕ) where
+  checked_more : {row : Row} {end : ℕ} → get_signed s at ≡ got row end → checked (get_rows s (suc n) at) ≡ checked (get_rows s n end)
+  unfolding get_rows
+  checked_more {row} {end} e = rw e (kept row (get_rows s n end))
 
-checked_more : (s : List ℕ) (n at : ℕ) → checked (get_rows s (suc n) at) ≡ after (get_signed s at) (λ row next. checked (get_rows s n next))
-unfolding get_rows
-checked_more s n at = checked_by s n (get_signed s at)
+  checked_stop : {k : Refusal} → get_signed s at ≡ bad k → checked (get_rows s (suc n) at) ≡ refused k
+  unfolding get_rows checked
+  checked_stop e = rw e
 
 -- i of n rows are tested
 pub record Checking (s : List ℕ) (at n next i : ℕ) : Type 0 where
-  pub upto : i ≤ n
   pub same : checked (get_rows s n at) ≡ checked (get_rows s (n - i) next)
 
-pub checking_none : (s : List ℕ) (at n : ℕ) → Checking s at n at 0
-checking_none s at n = let z : n - 0 ≡ n = omega arith in record { upto = omega arith; same = rw z }
-
 module _ {s : List ℕ} {at n next i : ℕ} (g : Checking s at n next i) where
-  pub checked_all : n ≤ i → got nothing next ≡ checked (get_rows s n at)
+  pub checked_all : n ≤ i → done next ≡ checked (get_rows s n at)
   unfolding checked get_rows
-  checked_all h = let z : n - i ≡ 0 = omega (arith, g.upto) in rw (g.same, z)
+  checked_all h = let z : n - i ≡ 0 = omega arith in rw (g.same, z)
 
   module _ (h : i < n) where
-    one : checked (get_rows s n at) ≡ after (get_signed s next) (λ row end. checked (get_rows s (n - (i + 1)) end))
-    one = let z : n - i ≡ suc (n - (i + 1)) = omega arith in g.same ∙ rw z (checked_more s (n - (i + 1)) next)
+    one : checked (get_rows s n at) ≡ checked (get_rows s (suc (n - (i + 1))) next)
+    one = let z : n - i ≡ suc (n - (i + 1)) = omega arith in g.same ∙ rw z
 
-    pub checking_stops : (r : Reading) (x : Row) {k : Refusal} → ended_by r x ≡ get_signed s next → r ≡ Refused k → ended_by r nothing ≡ checked (get_rows s n at)
-    checking_stops r x {k} e f =
-        let z : get_signed s next ≡ bad k = sym e ∙ ap (λ (y : Reading). ended_by y x) f in
-        ap (λ (y : Reading). ended_by y nothing) f ∙ sym (one ∙ rw z)
+    pub checking_stops : {k : Refusal} → bad k ≡ get_signed s next → refused k ≡ checked (get_rows s n at)
+    checking_stops e = sym (one ∙ checked_stop s (n - (i + 1)) next (sym e))
 
-    pub checking_more : (r : Reading) (x : Row) {end : ℕ} → ended_by r x ≡ get_signed s next → r ≡ Read end → Checking s at n end (i + 1)
-    checking_more r x {end} e f =
-        let z : get_signed s next ≡ got x end = sym e ∙ ap (λ (y : Reading). ended_by y x) f in
-        record { upto = omega arith; same = one ∙ rw z }
+    pub checking_more : {row : Row} {end : ℕ} → got row end ≡ get_signed s next → Checking s at n end (i + 1)
+    checking_more e = record { same = one ∙ checked_more s (n - (i + 1)) next (sym e) }
 
 -- ---- written
 abbrev logged_held : StampedOperation → Held
@@ -89,7 +80,6 @@ slots_more (x ∷ rs) r =
 
 -- i of n rows are written
 pub record Writing (s : List ℕ) (at n : ℕ) (area₀ area : List ℕ) (next i : ℕ) : Type 0 where
-  pub upto : i ≤ n
   pub room : 704 * n ≤ length area₀
   pub written : List Row
   pub long : length (slots_of written) ≡ 704 * i
@@ -104,7 +94,6 @@ unfolding slots_of logged_rows encode_slots
 writing_none s at n area r h =
     let z : n - 0 ≡ n = omega arith in
     record {
-      upto = omega arith;
       room = h;
       written = [];
       long = refl;
@@ -116,13 +105,10 @@ writing_none s at n area r h =
     }
 
 module _ {s : List ℕ} {at n : ℕ} {area₀ area : List ℕ} {next i : ℕ} (g : Writing s at n area₀ area next i) where
-  pub writing_size : length area ≡ length area₀
-  writing_size = ap length g.put ∙ length_put area₀ (slots_of g.written) 0 (omega (arith, g.room, g.long, g.upto))
-
   pub written_all : n ≤ i → area ≡ put_at area₀ 0 (encode_slots (logged_rows (rows_in (get_rows s n at))))
   unfolding get_rows slots_of
   written_all h =
-      let z : n - i ≡ 0 = omega (arith, g.upto) in
+      let z : n - i ≡ 0 = omega arith in
       let e : got [] next ≡ got g.rest g.end = rw z at g.left in
       let f : [] ≡ g.rest = got_value e in
       g.put ∙ ap (λ (rs : List Row). put_at area₀ 0 (encode_slots (logged_rows rs))) (sym (g.all ∙ ap (λ (rs : List Row). g.written ++ rs) (sym f) ∙ append-nil g.written))
@@ -147,26 +133,29 @@ module _ {s : List ℕ} {at n : ℕ} {area₀ area : List ℕ} {next i : ℕ} (g
         let w : y.1 ≡ g.end = got_next y.3 in
         record { row = x.0; stop = x.1; is = x.2; rows = y.0; behind = y.2 ∙ ap (got y.0) w; split = got_value y.3 }
 
-    pub writing_goes_on : (r : Reading) (x : Row) {k : Refusal} → ended_by r x ≡ get_signed s next → r ≡ Refused k → ⊥
-    writing_goes_on r x {k} e f =
-        let z : bad k ≡ got next_row.row next_row.stop = ap (λ (y : Reading). ended_by y x) (sym f) ∙ e ∙ next_row.is in
-        let w : ◌≡◌ {A = ℕ} 0 1 = cc in
-        omega arith
+    -- it is read
+    goes_on : (r : Got StampedOperation) → signed_read_of s r ≡ got next_row.row next_row.stop → IsOk r
+    goes_on (Ok (o, end)) e = refl
+    goes_on (Err k) e = absurd (let z : ◌≡◌ {A = ℕ} 0 1 = cc in omega arith)
+
+    pub writing_goes_on : (r : Got StampedOperation) → signed_read_of s r ≡ get_signed s next → IsOk r
+    writing_goes_on r e = goes_on r (e ∙ next_row.is)
 
     pub slot_room : 704 * (i + 1) ≤ length area
-    slot_room = omega (arith, g.room, writing_size)
+    slot_room =
+        let size : length area ≡ length area₀ = ap length g.put ∙ length_put area₀ (slots_of g.written) 0 (omega (arith, g.room, g.long)) in
+        omega (arith, g.room)
 
-    pub writing_more : (r : Reading) (o : StampedOperation) {stop : ℕ} (area' : List ℕ) → ended_by r (row_of s o) ≡ get_signed s next → r ≡ Read stop → OpFits s o
+    pub writing_more : {r : Got StampedOperation} (o : StampedOperation) {stop : ℕ} (area' : List ℕ) → signed_read_of s r ≡ get_signed s next → r ≡ got o stop → OpFits s o
         → area' ≡ put_at area (704 * i) (encode_held (logged (row_of s o))) → Writing s at n area₀ area' stop (i + 1)
-    writing_more r o {stop} area' e f fits p =
-        let z : got next_row.row next_row.stop ≡ got (row_of s o) stop = sym next_row.is ∙ sym e ∙ ap (λ (y : Reading). ended_by y (row_of s o)) f in
+    writing_more o {stop} area' e f fits p =
+        let z : got next_row.row next_row.stop ≡ got (row_of s o) stop = sym next_row.is ∙ sym e ∙ ap (signed_read_of s) f in
         let a : next_row.row ≡ row_of s o = got_value z in
         let b : next_row.stop ≡ stop = got_next z in
         let slot : List ℕ = encode_held (logged (row_of s o)) in
         let l : length slot ≡ 704 = ap (λ (h : HeldRow). length (encode_held h)) (sym (held_logged s o)) ∙ fits_length s (logged_held o) fits in
         let m : slots_of (g.written ++ (row_of s o ∷ [])) ≡ slots_of g.written ++ slot = slots_more g.written (row_of s o) in
         record {
-          upto = omega arith;
           room = g.room;
           written = g.written ++ (row_of s o ∷ []);
           long = ap length m ∙ length-append (slots_of g.written) slot ∙ omega (arith, g.long, l);

@@ -1,19 +1,19 @@
 -- A tag, and what is written behind it: a clock, or a number.
 use Prim.Native.Nat.{ℕ, ◌+◌, ◌*◌, ◌≤◌, ◌<◌}
 use mathlib.Core.Path.{◌≡◌, refl, sym, ◌∙◌}
-use mathlib.Core.Bool.{Bool, true, false, not}
+use mathlib.Core.Bool.{Bool, true, false}
 use mathlib.Core.List.{List, [], ◌∷◌}
 use native.Mathlib.Omega.{arith}
 use lib.ListN.{length, take, set}
-use borrow.Author.Tests.{le-leb, lt-leb, not-true, not-false}
+use borrow.Author.Tests.{le-leb, lt-leb}
 use Rattle.error.specs.declared.Refusal.{Refusal}
 use Rattle.error.specs.declared.Refusal.TheVariants.{ShortArea, UnsoundStore}
-use Rattle.error.specs.Answer.{Answer, done, refused, and_then, Ends, ends}
+use Rattle.std.specs.declared.result.Result.TheVariants.{Ok, Err}
+use Rattle.error.specs.Answer.{Answer, done, refused, and_then, ends}
+use Rattle.error.specs.declared.Ends.{Ends}
 use Rattle.codec.specs.Leb128.{shortest}
-use Rattle.codec.specs.Writing.{write_call, written_of}
+use Rattle.codec.specs.Writing.{write_call}
 use Rattle.codec.specs.Inside.EnvelopeParts.{Stored, room}
-use Rattle.codec.specs.declared.Written.{Written}
-use Rattle.codec.specs.declared.Written.TheVariants.{Next, Refused}
 use Rattle.codec.proofs.WriterLaws.{put_one, rest_room, stored_then}
 use Rattle.clock.specs.declared.vector.VectorClock.{VectorClock}
 use Rattle.clock.specs.Vector.{pairs, entries, sound}
@@ -48,10 +48,10 @@ tag_length : (tag : ℕ) (vs : List ℕ) {n : ℕ} → n ≡ length vs → 1 + n
 tag_length tag vs e = omega arith
 
 -- the same where n bytes behind the tag find room
-module _ (out : List ℕ) (tag : ℕ) (vs : List ℕ) {n : ℕ} (l : n ≡ length vs) {r : Written} (e : written_of r ≡ room (length out) 0 (1 + n)) where
-  module _ {m : ℕ} (f : r ≡ Next m) where
+module _ (out : List ℕ) (tag : ℕ) (vs : List ℕ) {n : ℕ} (l : n ≡ length vs) where
+  module _ {m : ℕ} (f : done m ≡ room (length out) 0 (1 + n)) where
     all_found : 0 + length (tag ∷ vs) ≤ length out
-    all_found = found_room out 0 (tag ∷ vs) (1 + n) (tag_length tag vs l) e f
+    all_found = found_room out 0 (tag ∷ vs) (1 + n) (tag_length tag vs l) f
 
     pub tag_found : 1 ≤ length out
     tag_found = tag_room out tag vs all_found
@@ -60,11 +60,11 @@ module _ (out : List ℕ) (tag : ℕ) (vs : List ℕ) {n : ℕ} (l : n ≡ lengt
       pub behind_found : at + length vs ≤ length t
       behind_found = behind_room out tag vs all_found d
 
-      pub tagged_put : {k : ℕ} {u : List ℕ} → Stored t at vs k u → ends (written_of (Next k)) u ≡ write_call out 0 (tag ∷ vs)
-      tagged_put g = put_all out 0 (tag ∷ vs) (1 + n) (tag_length tag vs l) e f (tagged out tag vs all_found d g)
+      pub tagged_put : {k : ℕ} {u : List ℕ} → Stored t at vs k u → ends (done k) u ≡ write_call out 0 (tag ∷ vs)
+      tagged_put g = put_all out 0 (tag ∷ vs) (1 + n) (tag_length tag vs l) f (tagged out tag vs all_found d g)
 
-  pub tagged_short : {k : Refusal} → r ≡ Refused k → ends (written_of (Refused k)) out ≡ write_call out 0 (tag ∷ vs)
-  tagged_short f = put_none out 0 (tag ∷ vs) (1 + n) (tag_length tag vs l) e f
+  pub tagged_short : {k : Refusal} {r : Answer ℕ} → refused k ≡ room (length out) 0 (1 + n) → r ≡ refused k → ends r out ≡ write_call out 0 (tag ∷ vs)
+  tagged_short e f = put_none out 0 (tag ∷ vs) (1 + n) (tag_length tag vs l) e f
 
 -- ---- a clock
 module _ (c : VectorClock) (s : sound c ≡ true) (long : length c.authors ≡ 32) (wide : length c.numbers ≡ 32) where
@@ -89,27 +89,24 @@ module _ (out : List ℕ) (tag : ℕ) (clock : List ℕ) where
   clock_short h = rw (lt-leb 520 (length clock) h)
 
   module _ (h : 520 ≤ length clock) {c : VectorClock} (e : c ≡ clock_at clock 0) {b : Bool} (k : b ≡ sound c) where
-    pub clock_sound : not b ≡ false → sound c ≡ true
-    clock_sound f = sym k ∙ not-false b f
-
-    pub clock_unsound : not b ≡ true → ends (refused UnsoundStore) out ≡ encode_clock out tag clock
+    pub clock_unsound : b ≡ false → ends (refused UnsoundStore) out ≡ encode_clock out tag clock
     unfolding encode_clock read_clock
-    clock_unsound f = rw (le-leb 520 (length clock) h, ← e, ← k, not-true b f)
+    clock_unsound f = rw (le-leb 520 (length clock) h, ← e, ← k, f)
 
-    pub clock_put : {w : Ends ℕ (List ℕ)} → not b ≡ false → w ≡ write_call out 0 (tag ∷ deps_bytes (entries c)) → w ≡ encode_clock out tag clock
+    pub clock_put : {w : Ends ℕ (List ℕ)} → b ≡ true → w ≡ write_call out 0 (tag ∷ deps_bytes (entries c)) → w ≡ encode_clock out tag clock
     unfolding encode_clock read_clock
-    clock_put f g = rw (le-leb 520 (length clock) h, ← e, ← k, not-false b f) g
+    clock_put f g = rw (le-leb 520 (length clock) h, ← e, ← k, f) g
 
 -- ---- the messages with one
 hello_by : (out : List ℕ) (a : Answer (List (ℕ × ℕ))) → write_clock out 0 a ≡ write_message out (and_then a (λ es. done (hello es)))
 unfolding message_bytes
-hello_by out (done es) = refl
-hello_by out (refused r) = refl
+hello_by out (Ok es) = refl
+hello_by out (Err r) = refl
 
 ack_by : (out : List ℕ) (a : Answer (List (ℕ × ℕ))) → write_clock out 2 a ≡ write_message out (and_then a (λ es. done (ack es)))
 unfolding message_bytes
-ack_by out (done es) = refl
-ack_by out (refused r) = refl
+ack_by out (Ok es) = refl
+ack_by out (Err r) = refl
 
 module _ (out clock : List ℕ) {w : Ends ℕ (List ℕ)} where
   pub hello_written : w ≡ encode_clock out 0 clock → w ≡ encode_hello out clock

@@ -4,7 +4,9 @@ use Rattle.words.specs.Names.{Bytes, Area, Position}
 use Rattle.words.specs.Sizes.{most_batch, clock_size, slot_size}
 use Rattle.words.specs.Areas.{put_at}
 use Rattle.error.specs.declared.Refusal.TheVariants.{UnsoundStore, ShortArea, OverCapacity}
-use Rattle.error.specs.Answer.{Answer, done, refused, and_then, unless, Ends, ends}
+use Rattle.std.specs.declared.result.Result.TheVariants.{Ok, Err}
+use Rattle.error.specs.Answer.{Answer, done, refused, and_then, unless, ends}
+use Rattle.error.specs.declared.Ends.{Ends}
 use Rattle.clock.specs.Vector.{clock_of}
 use Rattle.clock.specs.Area.{clock_bytes}
 use Rattle.codec.specs.Writing.{write_call}
@@ -16,17 +18,14 @@ use Rattle.message.specs.Messages.{Message, hello, delta, ack, ping, pong, messa
 use Rattle.message.specs.Reading.{read_message, Frame, read_frame}
 use Rattle.message.specs.declared.Kind.{Kind}
 use Rattle.message.specs.declared.Kind.TheVariants as kind
-use Rattle.message.specs.declared.MessageRead.{MessageRead}
-use Rattle.message.specs.declared.MessageRead.TheVariants as read
 use Rattle.message.specs.declared.FrameRead.{FrameRead}
-use Rattle.message.specs.declared.FrameRead.TheVariants as frame
 
 -- ---- writing
 
 -- a message to the start of an output: last 2; a refusal leaves the output
 abbrev pub write_message : Area → Answer Message → Ends Position Area
-write_message out (done m) = write_call out 0 (message_bytes m)
-write_message out (refused r) = ends (refused r) out
+write_message out (Ok m) = write_call out 0 (message_bytes m)
+write_message out (Err r) = ends (refused r) out
 
 -- encode_hello: 2 and 1 for the clock area
 unfoldable pub encode_hello : (out clock : Area) → Ends Position Area
@@ -71,20 +70,20 @@ message_call body clock rows =
 
 -- what is written: only what the message holds, from the area's start; a refusal leaves both areas
 abbrev pub clock_left : (clock : Area) → Answer Message → Area
-clock_left clock (done (hello es)) = put_at clock 0 (clock_bytes (clock_of es))
-clock_left clock (done (delta rs)) = clock
-clock_left clock (done (ack es)) = put_at clock 0 (clock_bytes (clock_of es))
-clock_left clock (done (ping n)) = clock
-clock_left clock (done (pong n)) = clock
-clock_left clock (refused r) = clock
+clock_left clock (Ok (hello es)) = put_at clock 0 (clock_bytes (clock_of es))
+clock_left clock (Ok (delta rs)) = clock
+clock_left clock (Ok (ack es)) = put_at clock 0 (clock_bytes (clock_of es))
+clock_left clock (Ok (ping n)) = clock
+clock_left clock (Ok (pong n)) = clock
+clock_left clock (Err r) = clock
 
 abbrev pub rows_left : (rows : Area) → Answer Message → Area
-rows_left rows (done (hello es)) = rows
-rows_left rows (done (delta rs)) = put_at rows 0 (encode_slots (logged_rows rs))
-rows_left rows (done (ack es)) = rows
-rows_left rows (done (ping n)) = rows
-rows_left rows (done (pong n)) = rows
-rows_left rows (refused r) = rows
+rows_left rows (Ok (hello es)) = rows
+rows_left rows (Ok (delta rs)) = put_at rows 0 (encode_slots (logged_rows rs))
+rows_left rows (Ok (ack es)) = rows
+rows_left rows (Ok (ping n)) = rows
+rows_left rows (Ok (pong n)) = rows
+rows_left rows (Err r) = rows
 
 -- what the code's answer holds of a message
 abbrev pub kind_of : Message → Kind
@@ -94,11 +93,11 @@ kind_of (ack es) = kind.Ack
 kind_of (ping n) = kind.Ping n
 kind_of (pong n) = kind.Pong n
 
-abbrev pub message_answer : Answer Message → MessageRead
-message_answer (done m) = read.Message (kind_of m)
-message_answer (refused r) = read.Refused r
+abbrev pub message_answer : Answer Message → Answer Kind
+message_answer (Ok m) = done (kind_of m)
+message_answer (Err r) = refused r
 
-pub record ReadsMessage (body : Bytes) (clock rows : Area) (r : MessageRead) (clock' rows' : Area) : Type 0 where
+pub record ReadsMessage (body : Bytes) (clock rows : Area) (r : Answer Kind) (clock' rows' : Area) : Type 0 where
   pub answer : r ≡ message_answer (message_call body clock rows)
   pub clock_area_lem : clock' ≡ clock_left clock (message_call body clock rows)
   pub rows_area : rows' ≡ rows_left rows (message_call body clock rows)
@@ -115,13 +114,11 @@ frame_call s clock rows =
 abbrev pub message_in : Answer Frame → Answer Message
 message_in f = and_then f (λ x. done x.message)
 
-abbrev pub frame_answer : Answer Frame → FrameRead
-frame_answer (done f) =
-    frame.Frame (record { 0 = f.envelope.sender }) f.envelope.body.start f.envelope.body.len f.envelope.sig.start f.envelope.sig.len
-    (kind_of f.message)
-frame_answer (refused r) = frame.Refused r
+abbrev pub frame_answer : Answer Frame → Answer FrameRead
+frame_answer (Ok f) = done (record { envelope = f.envelope; kind = kind_of f.message })
+frame_answer (Err r) = refused r
 
-pub record ReadsFrame (s : Bytes) (clock rows : Area) (r : FrameRead) (clock' rows' : Area) : Type 0 where
+pub record ReadsFrame (s : Bytes) (clock rows : Area) (r : Answer FrameRead) (clock' rows' : Area) : Type 0 where
   pub answer : r ≡ frame_answer (frame_call s clock rows)
   pub clock_area_lem : clock' ≡ clock_left clock (message_in (frame_call s clock rows))
   pub rows_area : rows' ≡ rows_left rows (message_in (frame_call s clock rows))

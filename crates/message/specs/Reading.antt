@@ -6,10 +6,13 @@ use Rattle.words.specs.Choice.{pick}
 use Rattle.error.specs.declared.Refusal.TheVariants.{OverCapacity, InvalidTag}
 use Rattle.error.specs.Answer.{Answer, done, and_then, Got, got, bad, after, need}
 use Rattle.clock.specs.Entries.{enter}
-use Rattle.codec.specs.Reading.{get_u8, get_varint, get_count, Part, part_of}
-use Rattle.codec.specs.Envelopes.{max_signature, Envelope, read_envelope, closed}
+use Rattle.codec.specs.Reading.{get_u8, get_varint, get_count, part_of}
+use Rattle.codec.specs.declared.Part.{Part}
+use Rattle.codec.specs.Envelopes.{max_signature, read_envelope, closed}
+use Rattle.codec.specs.declared.Envelope.{Envelope}
 use Rattle.row.specs.Rows.{Row}
-use Rattle.row.specs.Reading.{Head, get_head}
+use Rattle.row.specs.Reading.{get_head}
+use Rattle.row.specs.declared.reader.Head.{Head}
 use Rattle.message.specs.Messages.{Message, hello, delta, ack, ping, pong}
 
 -- rs: "MAX_DEPS: usize = 4096", of dependencies and clocks
@@ -56,8 +59,8 @@ get_clock ours s at = after (count_within max_deps ours s at) (λ n at. get_pair
 abbrev pub signed_row : Bytes → Head → Clock → (payload signature : Part) → Row
 signed_row s head deps payload signature =
     record {
-      stamp = head.stamp;
-      author = head.author;
+      stamp = head.timestamp;
+      author = head.actor.0;
       seq = head.seq;
       deps = deps;
       payload = part_of s payload;

@@ -6,7 +6,8 @@ use Rattle.words.specs.Sizes.{clock_size, slot_size}
 use Rattle.words.specs.Be.{AllBytes}
 use Rattle.error.specs.Answer.{done}
 use Rattle.codec.specs.Reading.{part_of}
-use Rattle.codec.specs.Envelopes.{max_signature, Envelope, envelope}
+use Rattle.codec.specs.Envelopes.{max_signature, envelope}
+use Rattle.codec.specs.declared.Envelope.{Envelope}
 use Rattle.row.specs.Rows.{Row}
 use Rattle.replicated_log.specs.Store.{clock_ok}
 use Rattle.replicated_log.specs.Calls.{read_clock}
@@ -22,7 +23,7 @@ MessageBack = (m : Message) → message_ok m ≡ true → read_message (message_
 abbrev pub FrameBack : Type 0
 FrameBack =
     (m : Message) (sender : ℕ) (sig : Bytes) → message_ok m ≡ true → sender < 2 ^ 64 → length sig ≤ max_signature
-    → (e : Envelope) × (read_frame (envelope sender (message_bytes m) sig) ≡ done (record { envelope = e; message = m })) × (e.sender ≡ sender)
+    → (e : Envelope) × (read_frame (envelope sender (message_bytes m) sig) ≡ done (record { envelope = e; message = m })) × (e.sender.0 ≡ sender)
     × (part_of (envelope sender (message_bytes m) sig) e.body ≡ message_bytes m) × (part_of (envelope sender (message_bytes m) sig) e.sig ≡ sig)
 
 -- so the calls: in areas that are long enough

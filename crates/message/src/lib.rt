@@ -4,11 +4,10 @@
 pub mod reader; // messages from bytes
 pub mod writer; // messages to bytes
 
-use error::Refusal;
-use stubs::ActorId;
+use codec::Envelope;
 
 // Which message was read. A clock or rows stand in the lent areas: of a Delta here is their number, of Ping and Pong the nonce.
-#[derive(Clone, Copy)]
+#[derive(Clone, Copy, Debug, PartialEq, Eq)]
 pub enum Kind {
     Hello,
     Delta(usize),
@@ -17,22 +16,9 @@ pub enum Kind {
     Pong(u64),
 }
 
+// The envelope of a frame, and its message.
 #[derive(Clone, Copy)]
-pub enum MessageRead {
-    Message(Kind),
-    Refused(Refusal),
-}
-
-// The sender of a frame, where its body and its signature stand, and its message.
-#[derive(Clone, Copy)]
-pub enum FrameRead {
-    Frame {
-        sender: ActorId,
-        body_at: usize,
-        body_len: usize,
-        sig_at: usize,
-        sig_len: usize,
-        kind: Kind,
-    },
-    Refused(Refusal),
+pub struct FrameRead {
+    pub envelope: Envelope,
+    pub kind: Kind,
 }

@@ -2,7 +2,7 @@
 ghost use Rattle.std.specs.Prelude.{◌≡◌, true, [], ◌∷◌, ◌+◌, ◌*◌, ◌≤◌, length};
 ghost use Rattle.error.specs.Answer.{ends};
 ghost use Rattle.codec.specs.Leb128.{shortest};
-ghost use Rattle.codec.specs.Writing.{write_call, written_of};
+ghost use Rattle.codec.specs.Writing.{write_call};
 ghost use Rattle.codec.specs.Inside.EnvelopeParts.{Stored};
 ghost use Rattle.clock.specs.Vector.{entries, sound};
 ghost use Rattle.row.specs.Wire.{deps_bytes};
@@ -14,7 +14,7 @@ ghost use Rattle.message.specs.Inside.WriterParts.{encode_clock};
 use clock::raw::load_clock;
 use clock::vector::VectorClock;
 use codec::raw::{past, store_varint};
-use codec::{Written, varint_len};
+use codec::varint_len;
 use error::Refusal;
 use replicated_log::raw::parts_ok;
 use row::raw::{clock_len, read_slot, signed_len, store_clock, store_signed_op};
@@ -41,64 +41,55 @@ fn store_tag(out: &mut [u8], tag: u8) -> usize
 // ---- Hello and Ack: a tag and a clock.
 
 // The length of a clock's bytes.
-fn entries_len(c: VectorClock) -> usize
-    requires { sound c ≡ true }
-    ensures { (result ≡ length (deps_bytes (entries c))) × (result ≤ 650) }
+fn entries_len(c: &VectorClock) -> usize
+    requires { sound c.now ≡ true }
+    ensures { (result ≡ length (deps_bytes (entries c.now))) × (result ≤ 650) }
 {
-    let authors = c.authors;
-    let numbers = c.numbers;
-    clock_len(&authors, &numbers, c.count)
+    clock_len(&c.authors, &c.numbers, c.count)
 }
 
 // Writes a clock at `at`, and gives the position past it.
-fn store_entries(out: &mut [u8], at: usize, c: VectorClock) -> usize
-    requires { (sound c ≡ true) × (at + length (deps_bytes (entries c)) ≤ length out.old) }
-    ensures { Stored out.old at (deps_bytes (entries c)) result out.new }
+fn store_entries(out: &mut [u8], at: usize, c: &VectorClock) -> usize
+    requires { (sound c.now ≡ true) × (at + length (deps_bytes (entries c.now)) ≤ length out.old) }
+    ensures { Stored out.old at (deps_bytes (entries c.now)) result out.new }
 {
-    let authors = c.authors;
-    let numbers = c.numbers;
-    store_clock(out, at, &authors, &numbers, c.count)
+    store_clock(out, at, &c.authors, &c.numbers, c.count)
 }
 
 // Writes a tag and a clock at the start of `out`: all of it, or nothing.
-fn put_clock(out: &mut [u8], tag: u8, c: VectorClock) -> Written
-    requires { sound c ≡ true }
-    ensures { ends (written_of result) out.new ≡ write_call out.old 0 (tag ∷ deps_bytes (entries c)) }
+fn put_clock(out: &mut [u8], tag: u8, c: &VectorClock) -> Result<usize, Refusal>
+    requires { sound c.now ≡ true }
+    ensures { ends result out.new ≡ write_call out.old 0 (tag ∷ deps_bytes (entries c.now)) }
 {
-    let end = past(out.len(), 0, 1 + entries_len(c));
-    match end {
-        Written::Next(_) => {
-            let at = store_tag(out, tag);
-            Written::Next(store_entries(out, at, c))
-        }
-        Written::Refused(r) => Written::Refused(r),
-    }
+    past(out.len(), 0, 1 + entries_len(c))?;
+    let at = store_tag(out, tag);
+    Ok(store_entries(out, at, c))
 }
 
 // The same for the clock of a clock area.
-fn encode_clock(out: &mut [u8], tag: u8, clock: &[u8]) -> Written
-    ensures { ends (written_of result) out.new ≡ encode_clock out.old tag clock.now }
+fn encode_clock(out: &mut [u8], tag: u8, clock: &[u8]) -> Result<usize, Refusal>
+    ensures { ends result out.new ≡ encode_clock out.old tag clock.now }
 {
     if clock.len() < 520 {
-        return Written::Refused(Refusal::ShortArea);
+        return Err(Refusal::ShortArea);
     }
     let c = load_clock(clock, 0);
     if !c.is_sound() {
-        return Written::Refused(Refusal::UnsoundStore);
+        return Err(Refusal::UnsoundStore);
     }
-    put_clock(out, tag, c)
+    put_clock(out, tag, &c)
 }
 
 // Writes a Hello with the clock of a clock area at the start of `out`, and gives the position past it.
-pub fn encode_hello(out: &mut [u8], clock: &[u8]) -> Written
-    ensures { ends (written_of result) out.new ≡ encode_hello out.old clock.now }
+pub fn encode_hello(out: &mut [u8], clock: &[u8]) -> Result<usize, Refusal>
+    ensures { ends result out.new ≡ encode_hello out.old clock.now }
 {
     encode_clock(out, TAG_HELLO, clock)
 }
 
 // The same for an Ack.
-pub fn encode_ack(out: &mut [u8], clock: &[u8]) -> Written
-    ensures { ends (written_of result) out.new ≡ encode_ack out.old clock.now }
+pub fn encode_ack(out: &mut [u8], clock: &[u8]) -> Result<usize, Refusal>
+    ensures { ends result out.new ≡ encode_ack out.old clock.now }
 {
     encode_clock(out, TAG_ACK, clock)
 }
@@ -106,29 +97,24 @@ pub fn encode_ack(out: &mut [u8], clock: &[u8]) -> Written
 // ---- Ping and Pong: a tag and a number.
 
 // Writes a tag and a number at the start of `out`: all of it, or nothing.
-fn encode_nonce(out: &mut [u8], tag: u8, nonce: u64) -> Written
-    ensures { ends (written_of result) out.new ≡ write_call out.old 0 (tag ∷ shortest nonce) }
+fn encode_nonce(out: &mut [u8], tag: u8, nonce: u64) -> Result<usize, Refusal>
+    ensures { ends result out.new ≡ write_call out.old 0 (tag ∷ shortest nonce) }
 {
-    let end = past(out.len(), 0, 1 + varint_len(nonce));
-    match end {
-        Written::Next(_) => {
-            let at = store_tag(out, tag);
-            Written::Next(store_varint(out, at, nonce))
-        }
-        Written::Refused(r) => Written::Refused(r),
-    }
+    past(out.len(), 0, 1 + varint_len(nonce))?;
+    let at = store_tag(out, tag);
+    Ok(store_varint(out, at, nonce))
 }
 
 // Writes a Ping at the start of `out`, and gives the position past it.
-pub fn encode_ping(out: &mut [u8], nonce: u64) -> Written
-    ensures { ends (written_of result) out.new ≡ encode_ping out.old nonce }
+pub fn encode_ping(out: &mut [u8], nonce: u64) -> Result<usize, Refusal>
+    ensures { ends result out.new ≡ encode_ping out.old nonce }
 {
     encode_nonce(out, TAG_PING, nonce)
 }
 
 // The same for a Pong.
-pub fn encode_pong(out: &mut [u8], nonce: u64) -> Written
-    ensures { ends (written_of result) out.new ≡ encode_pong out.old nonce }
+pub fn encode_pong(out: &mut [u8], nonce: u64) -> Result<usize, Refusal>
+    ensures { ends result out.new ≡ encode_pong out.old nonce }
 {
     encode_nonce(out, TAG_PONG, nonce)
 }
@@ -141,11 +127,9 @@ fn rows_len(rows: &[u8], n: usize) -> usize
     ensures { (result ≡ length (rows_bytes (rows_in rows.now n))) × (result ≤ 912 * n) }
 {
     let mut len = 0;
-    let mut i = 0;
-    while i < n {
+    for i in 0..n {
         let held = read_slot(rows, 704 * i);
         len += signed_len(held.op);
-        i += 1;
     }
     len
 }
@@ -156,11 +140,9 @@ fn store_rows(out: &mut [u8], at: usize, rows: &[u8], n: usize) -> usize
     ensures { Stored out.old at (rows_bytes (rows_in rows.now n)) result out.new }
 {
     let mut next = at;
-    let mut i = 0;
-    while i < n {
+    for i in 0..n {
         let held = read_slot(rows, 704 * i);
         next = store_signed_op(out, next, held.op, rows);
-        i += 1;
     }
     next
 }
@@ -176,29 +158,26 @@ fn store_delta(out: &mut [u8], rows: &[u8], n: usize) -> usize
 }
 
 // The same where there is room: all of it, or nothing.
-fn put_delta(out: &mut [u8], rows: &[u8], n: usize) -> Written
+fn put_delta(out: &mut [u8], rows: &[u8], n: usize) -> Result<usize, Refusal>
     requires { Parts rows.now n × (n ≤ 64) }
-    ensures { ends (written_of result) out.new ≡ write_call out.old 0 (message_bytes (delta (rows_in rows.now n))) }
+    ensures { ends result out.new ≡ write_call out.old 0 (message_bytes (delta (rows_in rows.now n))) }
 {
-    let end = past(out.len(), 0, 1 + varint_len(n as u64) + rows_len(rows, n));
-    match end {
-        Written::Next(_) => Written::Next(store_delta(out, rows, n)),
-        Written::Refused(r) => Written::Refused(r),
-    }
+    past(out.len(), 0, 1 + varint_len(n as u64) + rows_len(rows, n))?;
+    Ok(store_delta(out, rows, n))
 }
 
 // Writes a Delta with the rows of `count` slots at the start of `out`, and gives the position past it.
-pub fn encode_delta(out: &mut [u8], rows: &[u8], count: usize) -> Written
-    ensures { ends (written_of result) out.new ≡ encode_delta out.old rows.now count }
+pub fn encode_delta(out: &mut [u8], rows: &[u8], count: usize) -> Result<usize, Refusal>
+    ensures { ends result out.new ≡ encode_delta out.old rows.now count }
 {
     if rows.len() / 704 < count {
-        return Written::Refused(Refusal::ShortArea);
+        return Err(Refusal::ShortArea);
     }
     if !parts_ok(rows, count) {
-        return Written::Refused(Refusal::UnsoundStore);
+        return Err(Refusal::UnsoundStore);
     }
     if 64 < count {
-        return Written::Refused(Refusal::OverCapacity);
+        return Err(Refusal::OverCapacity);
     }
     put_delta(out, rows, count)
 }

@@ -9,7 +9,8 @@ use Rattle.clock.specs.Vector.{sound}
 use Rattle.words.proofs.Conjunction.{and_left, and_right}
 use Rattle.peer.specs.declared.Peer.{Peer}
 use Rattle.peer.specs.Peers.{peer_sound, on_sound}
-use Rattle.error.specs.Answer.{Ends, ends, refused}
+use Rattle.error.specs.Answer.{ends, refused}
+use Rattle.error.specs.declared.Ends.{Ends}
 
 module _ (p : Peer) where
   pub sound_sent : 8 < p.outstanding.count → false ≡ peer_sound p

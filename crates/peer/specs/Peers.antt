@@ -7,9 +7,10 @@ use Rattle.words.specs.Choice.{pick}
 use Rattle.words.specs.Lists.{count_if}
 use Rattle.words.specs.Areas.{pad}
 use Rattle.error.specs.declared.Refusal.TheVariants.{UnsoundStore, UnaskedPong}
-use Rattle.error.specs.Answer.{Answer, done, refused, and_then, unless, nothing, Ends, ends}
+use Rattle.error.specs.Answer.{Answer, done, refused, and_then, unless, nothing, ends}
+use Rattle.error.specs.declared.Ends.{Ends}
 use Rattle.clock.specs.declared.vector.VectorClock.{VectorClock}
-use Rattle.clock.specs.Vector.{sound, entries, clock_of, merge_call, outcome_of}
+use Rattle.clock.specs.Vector.{sound, entries, clock_of, merge_call}
 use Rattle.row.specs.Rows.{Row}
 use Rattle.replicated_log.specs.Areas.{Areas, read_store}
 use Rattle.replicated_log.specs.Calls.{unseen}
@@ -17,7 +18,6 @@ use Rattle.peer.specs.declared.PeerState.{PeerState}
 use Rattle.peer.specs.declared.PeerState.TheVariants.{Connecting, Syncing, Disconnected}
 use Rattle.peer.specs.declared.Pings.{Pings}
 use Rattle.peer.specs.declared.Peer.{Peer}
-use Rattle.peer.specs.declared.PeerAnswer.{PeerAnswer}
 
 -- the nonces of a list of pings
 unfoldable pub nonces : Pings → List ℕ
@@ -159,7 +159,3 @@ pending_ops es rows = count_if (unseen es) rows
 unfoldable pub pending_ops_call : Peer → Areas → Answer ℕ
 pending_ops_call p a =
     and_then (read_store a) (λ s. unless (peer_sound p) UnsoundStore (done (pending_ops (entries p.remote_clock) s.log)))
-
--- what the code's answer stands for
-abbrev pub answer_of : PeerAnswer → Ends Unit Peer
-answer_of r = ends (outcome_of r.outcome) r.peer

@@ -7,18 +7,17 @@ mod pending; // rows that a peer lacks
 pub mod raw; // a peer in a lent area
 
 ghost use Rattle.std.specs.Prelude.{◌≡◌, ◌≤◌, ◌<◌};
-ghost use Rattle.clock.specs.Vector.{number_answer};
 ghost use Rattle.replicated_log.specs.Areas.{areas};
-ghost use Rattle.peer.specs.Peers.{nonces, push, with_pings, with_clock, with_times, rebased, take_pong, answer_of, new_peer, peer_sound, started_call, lost_call, absorb_call, replace_call, record_ping_call, take_pong_call, rebase_call, pending_ops_call};
+ghost use Rattle.peer.specs.Peers.{nonces, push, with_pings, with_times, rebased, take_pong, new_peer, peer_sound, started_call, lost_call, absorb_call, replace_call, record_ping_call, take_pong_call, rebase_call, pending_ops_call};
 ghost use Rattle.peer.specs.Inside.NoncePlaces.{without, having_pings};
 ghost use Rattle.error.specs.Answer.{done, refused, nothing, ends};
 
-use clock::vector::{NumberAnswer, Outcome, VectorClock};
-use error::Refusal;
+use clock::vector::VectorClock;
+use error::{Ends, Refusal};
 use replicated_log::check::check_store;
 use stubs::ActorId;
 
-// Connection status of a peer.
+// Connection status of a peer. The order is that of the numbers in the layout: 0 to 3.
 #[derive(Clone, Copy)]
 pub enum PeerState {
     Connecting,
@@ -48,29 +47,25 @@ pub struct Peer {
 }
 
 // The record afterwards, as it was where the call is refused.
-#[derive(Clone, Copy)]
-pub struct PeerAnswer {
-    pub outcome: Outcome,
-    pub peer: Peer,
-}
+pub type PeerAnswer = Ends<(), Peer>;
 
 // The record as it was, with a refusal.
 fn refuse(p: Peer, r: Refusal) -> PeerAnswer
-    ensures { answer_of result ≡ ends (refused r) p }
+    ensures { result ≡ ends (refused r) p }
 {
-    PeerAnswer {
-        outcome: Outcome::Refused(r),
-        peer: p,
+    Ends {
+        answer: Err(r),
+        left: p,
     }
 }
 
 // The record afterwards.
 fn done(p: Peer) -> PeerAnswer
-    ensures { answer_of result ≡ ends (done nothing) p }
+    ensures { result ≡ ends (done nothing) p }
 {
-    PeerAnswer {
-        outcome: Outcome::Done,
-        peer: p,
+    Ends {
+        answer: Ok(()),
+        left: p,
     }
 }
 
@@ -78,39 +73,12 @@ fn done(p: Peer) -> PeerAnswer
 fn with_times(p: Peer, state: PeerState, seen: u64, ping: u64, hello: u64) -> Peer
     ensures { result ≡ with_times p state seen ping hello }
 {
-    let id = p.id;
-    let remote_clock = p.remote_clock;
-    let outstanding = p.outstanding;
-    let answered = p.answered;
     Peer {
-        id: id,
-        state: state,
-        remote_clock: remote_clock,
+        state,
         last_seen_ms: seen,
         last_ping_ms: ping,
-        outstanding: outstanding,
-        answered: answered,
         last_hello_ms: hello,
-    }
-}
-
-// The record with another clock.
-fn with_clock(p: Peer, clock: VectorClock) -> Peer
-    ensures { result ≡ with_clock p clock }
-{
-    let id = p.id;
-    let state = p.state;
-    let outstanding = p.outstanding;
-    let answered = p.answered;
-    Peer {
-        id: id,
-        state: state,
-        remote_clock: clock,
-        last_seen_ms: p.last_seen_ms,
-        last_ping_ms: p.last_ping_ms,
-        outstanding: outstanding,
-        answered: answered,
-        last_hello_ms: p.last_hello_ms,
+        ..p
     }
 }
 
@@ -118,28 +86,18 @@ fn with_clock(p: Peer, clock: VectorClock) -> Peer
 fn rebased(now: u64, timer: u64) -> u64
     ensures { result ≡ rebased now timer }
 {
-    if now < timer {
-        return now;
-    }
-    timer
+    timer.min(now)
 }
 
 // The record with other lists of nonces.
 fn with_pings(p: Peer, ping: u64, outstanding: Pings, answered: Pings) -> Peer
     ensures { result ≡ having_pings p ping outstanding answered }
 {
-    let id = p.id;
-    let state = p.state;
-    let remote_clock = p.remote_clock;
     Peer {
-        id: id,
-        state: state,
-        remote_clock: remote_clock,
-        last_seen_ms: p.last_seen_ms,
         last_ping_ms: ping,
-        outstanding: outstanding,
-        answered: answered,
-        last_hello_ms: p.last_hello_ms,
+        outstanding,
+        answered,
+        ..p
     }
 }
 
@@ -148,10 +106,8 @@ fn with_ping(p: Peer, now: u64) -> Peer
     requires { (p.outstanding.count ≤ 8) × (p.answered.count ≤ 8) }
     ensures { result ≡ with_pings p now (push (nonces p.outstanding) now) (nonces p.answered) }
 {
-    let sent = p.outstanding;
-    let done = p.answered;
-    let outstanding = nonces::push_nonce(sent, now);
-    let answered = nonces::tidy(done);
+    let outstanding = nonces::push_nonce(p.outstanding, now);
+    let answered = nonces::tidy(p.answered);
     with_pings(p, now, outstanding, answered)
 }
 
@@ -160,26 +116,20 @@ fn moved(p: Peer, i: usize, nonce: u64) -> Peer
     requires { (p.answered.count ≤ 8) × (p.outstanding.count ≤ 8) × (i < p.outstanding.count) }
     ensures { result ≡ with_pings p p.last_ping_ms (without i (nonces p.outstanding)) (push (nonces p.answered) nonce) }
 {
-    let sent = p.outstanding;
-    let done = p.answered;
-    let outstanding = nonces::remove_nonce(sent, i);
-    let answered = nonces::push_nonce(done, nonce);
+    let outstanding = nonces::remove_nonce(p.outstanding, i);
+    let answered = nonces::push_nonce(p.answered, nonce);
     with_pings(p, p.last_ping_ms, outstanding, answered)
 }
 
 // What a pong does to a sound record.
 fn taken(p: Peer, nonce: u64) -> PeerAnswer
     requires { (p.outstanding.count ≤ 8) × (p.answered.count ≤ 8) }
-    ensures { answer_of result ≡ take_pong p nonce }
+    ensures { result ≡ take_pong p nonce }
 {
-    let sent = p.outstanding;
-    let i = nonces::find_nonce(sent, nonce);
-    if i < sent.count {
+    if let Some(i) = nonces::find_nonce(p.outstanding, nonce) {
         return done(moved(p, i, nonce));
     }
-    let answered = p.answered;
-    let j = nonces::find_nonce(answered, nonce);
-    if j < answered.count {
+    if nonces::find_nonce(p.answered, nonce).is_some() {
         return done(p);
     }
     refuse(p, Refusal::UnaskedPong)
@@ -191,17 +141,17 @@ impl Peer {
         ensures { result ≡ new_peer id.0 }
     {
         Peer {
-            id: id,
+            id,
             state: PeerState::Connecting,
             remote_clock: VectorClock::new(),
             last_seen_ms: 0,
             last_ping_ms: 0,
             outstanding: Pings {
-                nonces: [0u64; 8],
+                nonces: [0; 8],
                 count: 0,
             },
             answered: Pings {
-                nonces: [0u64; 8],
+                nonces: [0; 8],
                 count: 0,
             },
             last_hello_ms: 0,
@@ -209,24 +159,21 @@ impl Peer {
     }
 
     // Whether the record keeps its rules.
-    pub fn is_sound(self) -> bool
-        ensures { result ≡ peer_sound self }
+    pub fn is_sound(&self) -> bool
+        ensures { result ≡ peer_sound self.now }
     {
-        let outstanding = self.outstanding;
-        if 8 < outstanding.count {
+        if 8 < self.outstanding.count {
             return false;
         }
-        let answered = self.answered;
-        if 8 < answered.count {
+        if 8 < self.answered.count {
             return false;
         }
-        let remote_clock = self.remote_clock;
-        remote_clock.is_sound()
+        self.remote_clock.is_sound()
     }
 
     // Marks the start of a handshake at `now`.
     pub fn connection_started(self, now: u64) -> PeerAnswer
-        ensures { answer_of result ≡ started_call self now }
+        ensures { result ≡ started_call self now }
     {
         if !self.is_sound() {
             return refuse(self, Refusal::UnsoundStore);
@@ -236,7 +183,7 @@ impl Peer {
 
     // Marks the link as lost.
     pub fn connection_lost(self) -> PeerAnswer
-        ensures { answer_of result ≡ lost_call self }
+        ensures { result ≡ lost_call self }
     {
         if !self.is_sound() {
             return refuse(self, Refusal::UnsoundStore);
@@ -251,26 +198,20 @@ impl Peer {
     }
 
     // Folds in a clock that the peer reported in an Ack. Acks can arrive late, so this only raises the remote clock.
-    pub fn absorb_clock(self, clock: VectorClock) -> PeerAnswer
-        ensures { answer_of result ≡ absorb_call self clock }
+    pub fn absorb_clock(self, clock: &VectorClock) -> PeerAnswer
+        ensures { result ≡ absorb_call self clock.now }
     {
         if !self.is_sound() {
             return refuse(self, Refusal::UnsoundStore);
         }
-        let known = self.remote_clock;
-        let step = known.merge(clock);
-        let outcome = step.outcome;
-        let merged = step.clock;
-        let peer = with_clock(self, merged);
-        PeerAnswer {
-            outcome: outcome,
-            peer: peer,
-        }
+        let mut left = self;
+        let answer = left.remote_clock.merge(clock);
+        Ends { answer, left }
     }
 
     // Puts the clock that the peer reported in a Hello in the place of the remote clock: a peer that lost data has a lower one.
-    pub fn replace_clock(self, clock: VectorClock) -> PeerAnswer
-        ensures { answer_of result ≡ replace_call self clock }
+    pub fn replace_clock(self, clock: &VectorClock) -> PeerAnswer
+        ensures { result ≡ replace_call self clock.now }
     {
         if !self.is_sound() {
             return refuse(self, Refusal::UnsoundStore);
@@ -278,12 +219,15 @@ impl Peer {
         if !clock.is_sound() {
             return refuse(self, Refusal::UnsoundStore);
         }
-        done(with_clock(self, clock))
+        done(Peer {
+            remote_clock: *clock,
+            ..self
+        })
     }
 
     // The record once a ping is sent at `now`, its nonce. Only the most recent few are kept.
     pub fn pinged(self, now: u64) -> PeerAnswer
-        ensures { answer_of result ≡ record_ping_call self now }
+        ensures { result ≡ record_ping_call self now }
     {
         if !self.is_sound() {
             return refuse(self, Refusal::UnsoundStore);
@@ -294,7 +238,7 @@ impl Peer {
     // The record once the pong with this nonce is taken. A repeat of a recent answer is a duplicated frame and changes
     // nothing; any other nonce that is not outstanding is refused.
     pub fn ponged(self, nonce: u64) -> PeerAnswer
-        ensures { answer_of result ≡ take_pong_call self nonce }
+        ensures { result ≡ take_pong_call self nonce }
     {
         if !self.is_sound() {
             return refuse(self, Refusal::UnsoundStore);
@@ -304,26 +248,26 @@ impl Peer {
 
     // Pulls every timer back to `now` where the physical clock moved backwards, so that each can expire.
     pub fn rebase_timers(self, now: u64) -> PeerAnswer
-        ensures { answer_of result ≡ rebase_call self now }
+        ensures { result ≡ rebase_call self now }
     {
         if !self.is_sound() {
             return refuse(self, Refusal::UnsoundStore);
         }
-        let state = self.state;
         let seen = rebased(now, self.last_seen_ms);
         let ping = rebased(now, self.last_ping_ms);
         let hello = rebased(now, self.last_hello_ms);
-        done(with_times(self, state, seen, ping, hello))
+        done(with_times(self, self.state, seen, ping, hello))
     }
 
     // How many rows of a store's log this peer has not acknowledged: the depth of the offline queue.
-    pub fn pending_ops(self, log: &[u8], held: &[u8], head: &[u8]) -> NumberAnswer
-        ensures { number_answer result ≡ pending_ops_call self (areas log.now held.now head.now) }
+    pub fn pending_ops(self, log: &[u8], held: &[u8], head: &[u8]) -> Result<u64, Refusal>
+        ensures { result ≡ pending_ops_call self (areas log.now held.now head.now) }
     {
-        let told = check_store(log, held, head);
-        match told {
-            Outcome::Refused(r) => NumberAnswer::Refused(r),
-            Outcome::Done => pending::pending_in(self, log, head),
+        check_store(log, held, head)?;
+        if !self.is_sound() {
+            return Err(Refusal::UnsoundStore);
         }
+        let n = words::raw::get_word(head, 0) as usize;
+        Ok(pending::count_beyond(log, n, &self.remote_clock))
     }
 }

@@ -6,32 +6,23 @@ ghost use Rattle.peer.specs.Area.{state_number, state_of, pings_at, peer_at, pin
 use crate::{Peer, PeerState, Pings};
 use stubs::ActorId;
 
-// The number of a state.
+// The number of a state: states are numbered in the order in which they are declared.
 fn state_number(s: PeerState) -> u64
     ensures { result ≡ state_number s }
 {
-    match s {
-        PeerState::Connecting => 0,
-        PeerState::Syncing => 1,
-        PeerState::UpToDate => 2,
-        PeerState::Disconnected => 3,
-    }
+    s as u64
 }
 
 // The state that a number stands for; the last where it stands for none.
 fn state_of(n: u64) -> PeerState
     ensures { result ≡ state_of n }
 {
-    if n == 0 {
-        return PeerState::Connecting;
+    match n {
+        0 => PeerState::Connecting,
+        1 => PeerState::Syncing,
+        2 => PeerState::UpToDate,
+        _ => PeerState::Disconnected,
     }
-    if n == 1 {
-        return PeerState::Syncing;
-    }
-    if n == 2 {
-        return PeerState::UpToDate;
-    }
-    PeerState::Disconnected
 }
 
 // The list of nonces that stands at `at`, whether or not it keeps the rules.
@@ -39,16 +30,13 @@ fn load_pings(s: &[u8], at: usize) -> Pings
     requires { at + 72 ≤ length s.now }
     ensures { result ≡ pings_at s.now at }
 {
-    let mut nonces = [0u64; 8];
-    let mut i: usize = 0;
-    while i < 8 {
-        let n = words::raw::get_word(s, at + 8 + 8 * i);
-        nonces[i] = n;
-        i += 1;
+    let mut nonces = [0; 8];
+    for (i, n) in nonces.iter_mut().enumerate() {
+        *n = words::raw::get_word(s, at + 8 + 8 * i);
     }
     let count = words::raw::get_word(s, at);
     Pings {
-        nonces: nonces,
+        nonces,
         count: count as usize,
     }
 }
@@ -79,12 +67,12 @@ pub fn load_peer(s: &[u8]) -> Peer
     let hello = words::raw::get_word(s, 696);
     Peer {
         id: ActorId(id),
-        state: state,
-        remote_clock: remote_clock,
+        state,
+        remote_clock,
         last_seen_ms: seen,
         last_ping_ms: ping,
-        outstanding: outstanding,
-        answered: answered,
+        outstanding,
+        answered,
         last_hello_ms: hello,
     }
 }
@@ -94,16 +82,12 @@ pub fn store_peer(s: &mut [u8], p: Peer)
     requires { 704 ≤ length s.old }
     ensures { s.new ≡ put_at s.old 0 (peer_bytes p) }
 {
-    let state = p.state;
-    let remote_clock = p.remote_clock;
-    let outstanding = p.outstanding;
-    let answered = p.answered;
-    let first = [p.id.0, state_number(state)];
+    let first = [p.id.0, state_number(p.state)];
     words::raw::put_words(s, 0, &first);
-    clock::raw::store_clock(s, 16, remote_clock);
+    clock::raw::store_clock(s, 16, &p.remote_clock);
     let times = [p.last_seen_ms, p.last_ping_ms];
     words::raw::put_words(s, 536, &times);
-    store_pings(s, 552, outstanding);
-    store_pings(s, 624, answered);
+    store_pings(s, 552, p.outstanding);
+    store_pings(s, 624, p.answered);
     words::raw::put_word(s, 696, p.last_hello_ms);
 }

@@ -1,5 +1,5 @@
 -- The authors and payloads of working rows: what is counted of those that are left.
-use Prim.Native.Nat.{ℕ, suc, ◌+◌, ◌-◌, ◌*◌, ◌≤◌, ◌<◌}
+use Prim.Native.Nat.{ℕ, zero, suc, ◌+◌, ◌-◌, ◌*◌, ◌≤◌, ◌<◌}
 use mathlib.Core.Path.{◌≡◌, refl, sym, ◌∙◌, ap}
 use mathlib.Core.Bool.{Bool, true, false}
 use mathlib.Core.Logic.{inl, inr}
@@ -7,25 +7,26 @@ use mathlib.Core.List.{List, [], ◌∷◌, ◌++◌}
 use native.Mathlib.Numerals.{add-one}
 use native.Mathlib.Omega.{arith}
 use lib.Dec.{ltb, eqb}
-use lib.ListN.{length, take, drop, get_or, set, drop_of_length-le, length-drop}
-use lib.Seq.{length-take-le, get_or-take, drop-cons, take-suc-set}
-use borrow.Author.Tests.{eq-eqb, ne_eqb, lt-ltb, le-ltb, le-leb, lt-leb, ltb-true, ltb-false}
-use Rattle.words.specs.Choice.{pick}
+use lib.ListN.{length, take, drop, get_or, set, length-drop}
+use lib.Seq.{length-take-le, take-suc-set}
+use borrow.Author.Tests.{le-ltb, le-leb, lt-leb, ltb-true, ltb-false}
+use Rattle.std.proofs.Common.{Option, Some, None, MatchOption, count_by, All, filter}
+use Rattle.std.specs.List.{Contains}
+use Rattle.std.proofs.lemmas.List.Recursion.{is_count_by}
+use Rattle.std.proofs.lemmas.List.Sums.{count_by-le-length}
 use Rattle.words.specs.Be.{get64, column}
 use Rattle.words.proofs.Words.{test, lt_or_le}
-use Rattle.error.specs.Answer.{done, refused, Got, got, bad, nothing}
+use Rattle.std.specs.declared.result.Result.TheVariants.{Ok, Err}
+use Rattle.error.specs.Answer.{done, refused, Got, got, nothing}
 use Rattle.error.specs.declared.Refusal.TheVariants.{HeldOverflow, HeldBytes, AuthorOverflow}
 use Rattle.clock.proofs.LexicographicOrder.{clash}
 use Rattle.codec.specs.Reading.{part_of}
-use Rattle.codec.proofs.ReadSteps.{after_got}
+use Rattle.codec.proofs.ReadSteps.{after_got, got_value}
 use Rattle.row.specs.Rows.{Row, HeldRow}
 use Rattle.row.specs.Slots.{slot_at, slot_ok, decode_held}
 use Rattle.row.specs.Reading.{BatchRow, read_head, read_deps, read_part, read_closing, batch_row, read_row}
-use Rattle.row.specs.Values.{OpFits, row_read_by}
 use Rattle.row.specs.Calls.{ReadsRow}
 use Rattle.row.specs.declared.RowRead.{RowRead}
-use Rattle.row.specs.declared.Reading.{Reading}
-use Rattle.row.specs.declared.Reading.TheVariants.{Read, Refused}
 use Rattle.row.proofs.Operations.{word_part, slot_bounds, payload_length}
 use Rattle.row.proofs.CanonicalSlot.{slot_length}
 use Rattle.row.proofs.ReadRows.{PartGot, part_got}
@@ -36,8 +37,9 @@ use Rattle.working.specs.Inside.References.{ref_ok, refs_ok, is_read, arrived_by
 use Rattle.working.specs.Inside.Looks.{ref_row, batch_row_at}
 use Rattle.working.proofs.ScratchColumns.{Refs, refs_of, refs_at, cells_at, cells_more, length_cells}
 use Rattle.working.proofs.ScratchColumns.Refs.{none, more}
+use Rattle.working.proofs.Entrance.{read_row_at, read_fits}
 use Rattle.working.proofs.ReferenceRows.{ok_held, ok_batch, row_held, row_batch, row_time}
-use Rattle.quota.specs.Inside.Authors.{authors_of}
+use Rattle.quota.specs.Inside.Authors.{authors_of, over_of}
 use Rattle.words.specs.Lists.{count_if}
 
 -- ---- the columns of scratch, entry by entry
@@ -100,129 +102,79 @@ module _ (held batch : List ℕ) where
       rw e g
 
 -- ---- how often an author stands among them
-module _ (l : List ℕ) (n a : ℕ) where
-  -- so many were found, the others are left
-  unfoldable pub Counted : ℕ → ℕ → Type 0
-  Counted count i = count + times a (drop i (take n l)) ≡ times a (take n l)
-
-  pub next : (i : ℕ) → i < n → n ≤ length l → drop i (take n l) ≡ get_or l i 0 ∷ drop (i + 1) (take n l)
-  next i h k =
-      let e : length (take n l) ≡ n = length-take-le n l k in
-      rw (add-one i) (drop-cons (take n l) i 0 (omega arith) ∙ rw (get_or-take n l i 0 h))
-
-  pub none_left : (i : ℕ) → n ≤ i → n ≤ length l → drop i (take n l) ≡ []
-  none_left i h k = drop_of_length-le (take n l) {i = i} (omega (arith, length-take-le n l k))
-
-  pub count_start : Counted 0 0
-  unfolding Counted
-  count_start = omega arith
-
-  module _ (count i : ℕ) (h : i < n) (k : n ≤ length l) (g : Counted count i) where
-    pub count_yes : (m : ℕ) → m ≡ count + 1 → get_or l i 0 ≡ a → Counted m (i + 1)
-    unfolding Counted times count_if
-    count_yes m d e =
-        let q : times a (drop i (take n l)) ≡ suc (times a (drop (i + 1) (take n l))) = ap (times a) (next i h k) ∙ rw (eq-eqb _ _ e) in
-        omega (arith, g, q)
-
-    pub count_no : (m : ℕ) → m ≡ count → (get_or l i 0 ≡ a → ⊥) → Counted m (i + 1)
-    unfolding Counted times count_if
-    count_no m d e =
-        let q : times a (drop i (take n l)) ≡ times a (drop (i + 1) (take n l)) = ap (times a) (next i h k) ∙ rw (ne_eqb _ _ e) in
-        omega (arith, g, q)
-
-  pub count_end : (count i : ℕ) → n ≤ i → n ≤ length l → Counted count i → count ≡ times a (take n l)
-  unfolding Counted times count_if
-  count_end count i h k g =
-      let q : times a (drop i (take n l)) ≡ 0 = ap (times a) (none_left i h k) in
-      omega (arith, g, q)
+pub times_is : (a : ℕ) (l : List ℕ) → times a l ≡ count_by (λ b. eqb b a) l
+unfolding times count_if
+times_is a l =
+    is_count_by (times a) (λ b. eqb b a) refl (λ b k. elim (test (eqb b a)) [
+      | inl e ↦ rw e (omega arith)
+      | inr e ↦ rw e
+    ]) l
 
 -- ---- the lowest author above the limit
-pub lower_found : (a b : ℕ) → b < a → author b ≡ lower a (author b)
-unfolding lower
-lower_found a b h = rw (lt-ltb b a h)
+unfoldable least : List ℕ → Over
+least [] = nobody
+least (a ∷ l) = lower a (least l)
 
-pub lower_new : (a b : ℕ) → a ≤ b → author a ≡ lower a (author b)
-unfolding lower
-lower_new a b h = rw (le-ltb b a h)
-
--- what was found before the others
-unfoldable pub join : Over → Over → Over
-join nobody x = x
-join (author b) x = lower b x
-
-least : (a b c : ℕ) → pick (ltb (pick (ltb c a) c a) b) (pick (ltb c a) c a) b ≡ pick (ltb c (pick (ltb b a) b a)) c (pick (ltb b a) b a)
-least a b c = elim (test (ltb c a)) [
-  | inl p ↦ elim (test (ltb b a)) [
-    | inl q ↦ rw (p, q)
-    | inr q ↦ rw (p, q, p, lt-ltb c b (omega (arith, ltb-true c a p, ltb-false b a q)))
-  ]
-  | inr p ↦ elim (test (ltb b a)) [
-    | inl q ↦
-        rw (p, q, le-ltb c b (omega (arith, ltb-false c a p, ltb-true b a q)), le-ltb a b (omega (arith, ltb-true b a q)))
-    | inr q ↦ rw (p, q, p) (at_most a b (ltb-false b a q))
-  ]
+lowest_is : (limit : ℕ) (all l : List ℕ) → lowest_over limit all l ≡ least (filter (λ a. ltb limit (times a all)) l)
+unfolding lowest_over least
+lowest_is limit all [] = refl
+lowest_is limit all (a ∷ l) = elim (test (ltb limit (times a all))) [
+  | inl e ↦ rw e (ap (lower a) (lowest_is limit all l))
+  | inr e ↦ rw e (lowest_is limit all l)
 ]
+
+-- none of these is lower
+abbrev NoneBelow : ℕ → Over → Type 0
+NoneBelow m nobody = Unit {0}
+NoneBelow m (author b) = m ≤ b
+
+none_below : (m : ℕ) (l : List ℕ) → All (λ x. m ≤ x) l → NoneBelow m (least l)
+unfolding least lower
+none_below m [] h = tt
+none_below m (a ∷ l) h = of (least l) (h 0 0 (omega arith)) (none_below m l (λ k d q. h (suc k) d (omega arith)))
   where
-    at_most : (x y : ℕ) → x ≤ y → pick (ltb x y) x y ≡ x
-    at_most x y h = elim (test (ltb x y)) [
-      | inl e ↦ rw e
-      | inr e ↦ rw e (omega (arith, ltb-false x y e))
+    of : (x : Over) → m ≤ a → NoneBelow m x → NoneBelow m (lower a x)
+    of nobody p q = p
+    of (author b) p q = elim (test (ltb b a)) [
+      | inl e ↦ rw e q
+      | inr e ↦ rw e p
     ]
 
-either : (a b : ℕ) → pick (ltb a b) a b ≡ pick (ltb b a) b a
-either a b = elim (test (ltb a b)) [
-  | inl p ↦ rw (p, le-ltb b a (omega (arith, ltb-true a b p)))
-  | inr p ↦ elim (test (ltb b a)) [
-    | inl q ↦ rw (p, q)
-    | inr q ↦ rw (p, q) (omega (arith, ltb-false a b p, ltb-false b a q))
-  ]
+lower_least : (m : ℕ) (x : Over) → NoneBelow m x → author m ≡ lower m x
+unfolding lower
+lower_least m nobody h = refl
+lower_least m (author b) h = rw (le-ltb b m h)
+
+lower_past : (m a : ℕ) → m ≤ a → author m ≡ lower a (author m)
+unfolding lower
+lower_past m a h = elim (test (ltb m a)) [
+  | inl e ↦ rw e
+  | inr e ↦ rw e (ap author (omega (arith, ltb-false m a e)))
 ]
 
-join_lower : (f x : Over) (a : ℕ) → join f (lower a x) ≡ join (lower a f) x
-unfolding join lower
-join_lower nobody x a = refl
-join_lower (author b) nobody a = ap author (either a b)
-join_lower (author b) (author c) a = ap author (least a b c)
+least_is : (m : ℕ) (l : List ℕ) → Contains l m → All (λ x. m ≤ x) l → author m ≡ least l
+unfolding least
+least_is m [] (k, p, e) h = absurd (omega arith)
+least_is m (a ∷ l) (zero, p, e) h = rw e (lower_least m (least l) (none_below m l (λ k d q. h (suc k) d (omega arith))))
+least_is m (a ∷ l) (suc k, p, e) h =
+    lower_past m a (h 0 0 (omega arith)) ∙ ap (lower a) (least_is m l (k, omega arith, e) (λ k d q. h (suc k) d (omega arith)))
 
-join_nobody : (f : Over) → join f nobody ≡ f
-unfolding join lower
-join_nobody nobody = refl
-join_nobody (author b) = refl
+least_none : (l : List ℕ) → length l ≡ 0 → nobody ≡ least l
+unfolding least
+least_none [] h = refl
+least_none (a ∷ l) h = absurd (omega arith)
 
-module _ (limit : ℕ) (l : List ℕ) (n : ℕ) where
-  unfoldable pub Lowest : Over → ℕ → Type 0
-  Lowest found i = lowest_over limit (take n l) (take n l) ≡ join found (lowest_over limit (take n l) (drop i (take n l)))
-
-  pub lowest_start : Lowest nobody 0
-  unfolding Lowest join
-  lowest_start = refl
-
-  module _ (found : Over) (i a count : ℕ) (h : i < n) (k : n ≤ length l) (ea : a ≡ get_or l i 0) (ec : count ≡ times a (take n l)) (g : Lowest found i) where
-    seen : (b : Bool) → ltb limit count ≡ b → lowest_over limit (take n l) (drop i (take n l))
-        ≡ pick b (lower a (lowest_over limit (take n l) (drop (i + 1) (take n l)))) (lowest_over limit (take n l) (drop (i + 1) (take n l)))
-    unfolding lowest_over
-    seen b e = ap (lowest_over limit (take n l)) (next l n a i h k) ∙ rw (← ea, ← ec, e)
-
-    pub lowest_yes : (f : Over) → limit < count → f ≡ lower a found → Lowest f (i + 1)
-    unfolding Lowest
-    lowest_yes f t e = g ∙ ap (join found) (seen true (lt-ltb limit count t)) ∙ join_lower found _ a ∙ rw e
-
-    pub lowest_no : (f : Over) → count ≤ limit → f ≡ found → Lowest f (i + 1)
-    unfolding Lowest
-    lowest_no f t e = g ∙ ap (join found) (seen false (le-ltb limit count t)) ∙ rw e
-
-  pub lowest_end : (found : Over) (i : ℕ) → n ≤ i → n ≤ length l → Lowest found i → found ≡ lowest_over limit (take n l) (take n l)
-  unfolding Lowest lowest_over
-  lowest_end found i h k g = sym (g ∙ ap (λ (x : List ℕ). join found (lowest_over limit (take n l) x)) (none_left l n 0 i h k) ∙ join_nobody found)
+-- so it is the least of those that stand more often
+pub lowest_from_least : (limit : ℕ) (all l : List ℕ) (r : Option ℕ)
+    → MatchOption r (length (filter (λ a. ltb limit (times a all)) l) ≡ 0)
+    (λ m. Contains (filter (λ a. ltb limit (times a all)) l) m × All (λ x. m ≤ x) (filter (λ a. ltb limit (times a all)) l))
+    → over_of r ≡ lowest_over limit all l
+lowest_from_least limit all l None h = least_none _ h ∙ sym (lowest_is limit all l)
+lowest_from_least limit all l (Some m) h = least_is m _ h.0 h.1 ∙ sym (lowest_is limit all l)
 
 -- none where the limit is as many as all
 times_few : (a : ℕ) (l : List ℕ) → times a l ≤ length l
-unfolding times count_if
-times_few a [] = omega arith
-times_few a (b ∷ l) = elim (test (eqb b a)) [
-  | inl e ↦ rw e (omega (arith, times_few a l))
-  | inr e ↦ rw e (omega (arith, times_few a l))
-]
+times_few a l = rw (times_is a l) (count_by-le-length _ l)
 
 none_over : (limit : ℕ) (all l : List ℕ) → length all ≤ limit → nobody ≡ lowest_over limit all l
 unfolding lowest_over
@@ -273,17 +225,11 @@ held_payload held at w t e =
     let l : length (drop 384 (slot_at held at)) ≡ 320 = length-drop 384 (slot_at held at) ∙ rw (slot_length (slot_at held at) t) in
     (sym (rw f (length-take-le w (drop 384 (slot_at held at)) (omega arith))), b)
 
-read_payload : (s : List ℕ) (r : RowRead) (g : Got BatchRow) (d : Reading) → row_read_by d s r ≡ g → is_read g ≡ true
-    → ((next : ℕ) → d ≡ Read next → OpFits s r.op) → (r.op.payload_len ≡ length (arrived_by 0 g).row.payload) × (r.op.payload_len ≤ 256)
-read_payload s r g (Read next) e t f =
-    let o : OpFits s r.op = f next refl in
-    (rw (← e) (sym (payload_length s r.op o)), o.payload)
-read_payload s r g (Refused q) e t f = absurd (clash t (rw (← e)))
-
-pub batch_payload : (s : List ℕ) (at : ℕ) (r : RowRead) → is_read (read_row s at) ≡ true → ReadsRow s at r
-    → (r.op.payload_len ≡ length (batch_row_at s at).payload) × (r.op.payload_len ≤ 256)
-unfolding batch_row_at
-batch_payload s at r t d = read_payload s r (read_row s at) r.reading d.is t d.fits
+pub batch_payload : (s : List ℕ) (at : ℕ) (r : RowRead) (next : ℕ) → ReadsRow s at (got r next)
+    → (r.op.payload.len ≡ length (batch_row_at s at).payload) × (r.op.payload.len ≤ 256)
+batch_payload s at r next d =
+    let fits = read_fits s at r next d in
+    (sym (payload_length s r.op fits) ∙ ap (λ (x : Row). length x.payload) (read_row_at s at r next d), fits.payload)
 
 -- ---- the payloads of all
 module _ (held batch s : List ℕ) (n : ℕ) where
@@ -319,14 +265,14 @@ got_payload s at b next e =
     let (g, a₄, e₄, f₄) = after_got (read_part s a₃ 64) _ f₃ in
     let (c, a₅, e₅, f₅) = after_got (read_closing s a₄) _ f₄ in
     let d : PartGot s 256 a₂ p a₃ = part_got s 256 a₂ p a₃ e₃ in
-    let w : batch_row s h ds p g c ≡ b = cc in
+    let w : batch_row s h ds p g c ≡ b = got_value f₅ in
     let l : length (take p.len (drop p.start s)) ≡ p.len =
     length-take-le p.len (drop p.start s) (omega (arith, d.next, d.inside, length-drop p.start s)) in
     rw (← w) (omega (arith, l, d.few))
 
 row_payload : (s : List ℕ) (at : ℕ) (g : Got BatchRow) → read_row s at ≡ g → is_read g ≡ true → length (arrived_by 0 g).row.payload ≤ 256
-row_payload s at (got b next) e t = got_payload s at b next e
-row_payload s at (bad r) e t = absurd (clash t refl)
+row_payload s at (Ok (b, next)) e t = got_payload s at b next e
+row_payload s at (Err r) e t = absurd (clash t refl)
 
 module _ (held batch : List ℕ) where
   ref_payload : (k : ℕ) → ref_ok held batch k ≡ true → length (ref_row held batch k).payload ≤ 256

@@ -1,19 +1,20 @@
 -- Whether the logged rows find room: in the log, the clock and the watermarks.
 use Prim.Native.Nat.{ℕ, zero, suc, ◌+◌, ◌*◌, ◌≤◌, ◌<◌}
 use mathlib.Core.Path.{◌≡◌, refl, sym, ◌∙◌, ap}
-use mathlib.Core.Bool.{Bool, true, false, not}
+use mathlib.Core.Bool.{Bool, true, false}
 use mathlib.Core.List.{List, [], ◌∷◌}
 use native.Mathlib.Numerals.{add-one}
 use native.Mathlib.Omega.{arith}
 use lib.Dec.{leb, eqb}
 use lib.ListN.{length, take, drop, get_or, set}
 use lib.Seq.{length-take-le, get_or-take, drop-cons, drop-set-lt}
-use borrow.Author.Tests.{leb-true, le-leb, lt-leb, not-true, not-false}
+use borrow.Author.Tests.{leb-true, le-leb, lt-leb}
 use Rattle.words.specs.Be.{get64, column}
 use Rattle.words.proofs.Conjunction.{and_right, and_both}
 use Rattle.error.specs.declared.Refusal.{Refusal}
 use Rattle.error.specs.declared.Refusal.TheVariants.{LogFull, AuthorsFull}
-use Rattle.error.specs.Answer.{done, refused, nothing, Ends}
+use Rattle.error.specs.Answer.{done, refused, nothing}
+use Rattle.error.specs.declared.Ends.{Ends}
 use Rattle.clock.specs.declared.vector.VectorClock.{VectorClock}
 use Rattle.clock.specs.Entries.{rising, observe}
 use Rattle.clock.specs.Vector.{pairs, authors_of, zeros, entries, clock_of, sound, grown}
@@ -24,7 +25,7 @@ use Rattle.clock.proofs.ClockCalls.{grown_done, grown_refused}
 use Rattle.row.specs.Rows.{Row}
 use Rattle.replicated_log.specs.Store.{Mark, Store, marks_rise}
 use Rattle.replicated_log.specs.Areas.{capacity, marks_at, rows_of}
-use Rattle.replicated_log.specs.Answers.{unit_of}
+use Rattle.replicated_log.specs.Inside.Units.{unit_of}
 use Rattle.replicated_log.specs.Inside.StoreTests.{marks_in}
 use Rattle.replicated_log.specs.Inside.StoreChanges.{Stored, Sound, numbered, run}
 use Rattle.replicated_log.proofs.Store.Rules.{kept, length_rows}
@@ -204,20 +205,20 @@ module _ (log head held batch scratch : List ℕ) (m n count cap : ℕ) (ec : co
       marks_told : (s : Store) (z w : List ℕ) → Stored log head (capacity log) s z w → leb (length (insert_all s rows).marks) 32 ≡ b
       marks_told s z w d = rw (marks_length s z w d) (sym eb)
 
-      pub room_marks : not b ≡ true → Rooms log head rows n (refused AuthorsFull)
+      pub room_marks : b ≡ false → Rooms log head rows n (refused AuthorsFull)
       room_marks t = record {
         is = λ s z w d e.
             sym
             (ap unit_of
             (fits_authors (capacity log) (insert_all s rows) (omega (arith, log_length s z w d))
-            (rw (le-leb (length (insert_all s rows).clock) 32 (omega arith), marks_told s z w d, not-true b t))));
+            (rw (le-leb (length (insert_all s rows).clock) 32 (omega arith), marks_told s z w d, t))));
       }
 
-      pub room_done : not b ≡ false → Rooms log head rows n (done nothing)
+      pub room_done : b ≡ true → Rooms log head rows n (done nothing)
       room_done t = record {
         is = λ s z w d e.
             sym
             (ap unit_of
             (fits_done (capacity log) (insert_all s rows) (omega (arith, log_length s z w d)) (omega arith)
-            (leb-true (length (insert_all s rows).marks) 32 (marks_told s z w d ∙ not-false b t))));
+            (leb-true (length (insert_all s rows).marks) 32 (marks_told s z w d ∙ t))));
       }

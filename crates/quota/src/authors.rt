@@ -1,21 +1,14 @@
 // The authors of working rows, and the lowest that holds too many.
 ghost use Rattle.std.specs.Prelude.{◌≡◌, true, ◌*◌, ◌≤◌, length, take};
-ghost use Rattle.merging.specs.Merging.{times, lower, lowest_over};
+ghost use Rattle.merging.specs.Merging.{times, lowest_over};
 ghost use Rattle.working.specs.Inside.References.{ref_ok, refs_ok};
 ghost use Rattle.working.specs.Inside.Looks.{ref_row};
 ghost use Rattle.quota.specs.Inside.Authors.{authors_of, over_of};
 ghost use Rattle.words.specs.Be.{column};
 
 use row::raw::read_actor;
-use row::reader::{HeadRead, read_head};
+use row::reader::read_head;
 use words::raw::get_word;
-
-// The lowest author above the limit, if there is one.
-#[derive(Clone, Copy)]
-pub(crate) enum Over {
-    Nobody,
-    Author(u64),
-}
 
 // The author of a reference's row.
 pub(crate) fn author_of(held: &[u8], batch: &[u8], k: u64) -> u64
@@ -24,19 +17,10 @@ pub(crate) fn author_of(held: &[u8], batch: &[u8], k: u64) -> u64
 {
     let i = k as usize;
     if i < 64 {
-        let slot = read_actor(held, 704 * i);
-        return slot.0;
+        return read_actor(held, 704 * i).0;
     }
-    let HeadRead::Head {
-        timestamp: _,
-        actor,
-        seq: _,
-        next: _,
-    } = read_head(batch, i - 64)
-    else {
-        return 0;
-    };
-    actor.0
+    let (head, _) = read_head(batch, i - 64).unwrap();
+    head.actor.0
 }
 
 // The authors of the n working rows.
@@ -44,71 +28,51 @@ fn load_authors(held: &[u8], batch: &[u8], scratch: &[u8], n: usize, authors: &m
     requires { (refs_ok held.now batch.now (column scratch.now 0 n) ≡ true) × (16 * n ≤ length scratch.now) × (n ≤ length authors.old) }
     ensures { take n authors.new ≡ authors_of held.now batch.now (column scratch.now 0 n) }
 {
-    let mut i: usize = 0;
-    while i < n {
+    for i in 0..n {
         let k = get_word(scratch, 16 * i);
         authors[i] = author_of(held, batch, k);
-        i += 1;
     }
 }
 
-// How many of the first n authors are a.
+// How many of the first n authors are a. A loop, which compiles to wide compares, as `filter` and `count` do not.
 fn count_of(authors: &[u64], n: usize, a: u64) -> usize
     requires { n ≤ length authors.now }
     ensures { result ≡ times a (take n authors.now) }
 {
     let mut count: usize = 0;
-    let mut i: usize = 0;
-    while i < n {
-        if authors[i] == a {
+    for b in &authors[..n] {
+        if *b == a {
             count += 1;
         }
-        i += 1;
     }
     count
 }
 
-// The lower of an author and the one found before it.
-fn lower(a: u64, found: Over) -> Over
-    ensures { over_of result ≡ lower a (over_of found) }
-{
-    match found {
-        Over::Nobody => Over::Author(a),
-        Over::Author(b) => {
-            if b < a {
-                Over::Author(b)
-            } else {
-                Over::Author(a)
-            }
-        }
-    }
-}
-
 // The lowest of the first n authors that stands more than `limit` times among them.
-fn lowest_over(authors: &[u64], n: usize, limit: u64) -> Over
+fn lowest_over(authors: &[u64], n: usize, limit: u64) -> Option<u64>
     requires { n ≤ length authors.now }
     ensures { over_of result ≡ lowest_over limit (take n authors.now) (take n authors.now) }
 {
-    let mut found = Over::Nobody;
-    let mut i: usize = 0;
-    while i < n {
-        let a = authors[i];
-        let count = count_of(authors, n, a);
-        if count as u64 > limit {
-            found = lower(a, found);
-        }
-        i += 1;
-    }
-    found
+    authors[..n]
+        .iter()
+        .copied()
+        .filter(|a| count_of(authors, n, *a) as u64 > limit)
+        .min()
 }
 
 // The lowest author with more than `limit` of the n working rows. Where the limit is n or more, there is none.
-pub(crate) fn author_over(held: &[u8], batch: &[u8], scratch: &[u8], n: usize, limit: u64) -> Over
+pub(crate) fn author_over(
+    held: &[u8],
+    batch: &[u8],
+    scratch: &[u8],
+    n: usize,
+    limit: u64,
+) -> Option<u64>
     requires { (refs_ok held.now batch.now (column scratch.now 0 n) ≡ true) × (16 * n ≤ length scratch.now) × (n ≤ 128) }
     ensures { over_of result ≡ lowest_over limit (authors_of held.now batch.now (column scratch.now 0 n)) (authors_of held.now batch.now (column scratch.now 0 n)) }
 {
     if n as u64 <= limit {
-        return Over::Nobody;
+        return None;
     }
     let mut authors = [0u64; 128];
     load_authors(held, batch, scratch, n, &mut authors);

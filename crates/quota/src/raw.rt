@@ -1,6 +1,5 @@
 // No call of document 01: these require a sound store and references to rows, and serve the merger, which has them.
 ghost use Rattle.std.specs.Prelude.{◌≡◌, true, ℕ, ◌*◌, ◌≤◌, ltb, length};
-ghost use Rattle.clock.specs.Vector.{outcome_of};
 ghost use Rattle.batch.specs.Settings.{limits_of};
 ghost use Rattle.merging.specs.Merging.{payload_bytes, quotas};
 ghost use Rattle.replicated_log.specs.Inside.StoreChanges.{Sound};
@@ -10,10 +9,9 @@ ghost use Rattle.working.specs.Inside.Scratch.{Working};
 ghost use Rattle.quota.specs.Inside.Room.{rows_logged, Rooms};
 ghost use Rattle.words.specs.Be.{column};
 
-use crate::authors::{Over, author_over};
+use crate::authors::author_over;
 use crate::room::marks_fit;
 use batch::MergeLimits;
-use clock::vector::Outcome;
 use error::Refusal;
 use replicated_log::check::capacity;
 use row::reader::read_row;
@@ -30,9 +28,8 @@ fn payload_len(held: &[u8], batch: &[u8], k: u64) -> usize
     if i < 64 {
         return get_word(held, 704 * i + 48) as usize;
     }
-    let row = read_row(batch, i - 64);
-    let op = row.op;
-    op.payload_len
+    let (row, _) = read_row(batch, i - 64).unwrap();
+    row.op.payload.len
 }
 
 // The payload bytes of the n working rows.
@@ -41,11 +38,9 @@ fn payload_bytes(held: &[u8], batch: &[u8], scratch: &[u8], n: usize) -> usize
     ensures { (time : ℕ) → result ≡ payload_bytes (work_rows held.now batch.now time (column scratch.now 0 n)) }
 {
     let mut bytes: usize = 0;
-    let mut i: usize = 0;
-    while i < n {
+    for i in 0..n {
         let k = get_word(scratch, 16 * i);
         bytes += payload_len(held, batch, k);
-        i += 1;
     }
     bytes
 }
@@ -63,24 +58,29 @@ fn bytes_over(held: &[u8], batch: &[u8], scratch: &[u8], n: usize, limit: u64) -
 }
 
 // Step 5: 14, 15 and 16 of the n rows that wait.
-pub fn quotas(held: &[u8], batch: &[u8], scratch: &[u8], n: usize, limits: MergeLimits) -> Outcome
+pub fn quotas(
+    held: &[u8],
+    batch: &[u8],
+    scratch: &[u8],
+    n: usize,
+    limits: MergeLimits,
+) -> Result<(), Refusal>
     requires { Working held.now batch.now scratch.now n × (n ≤ 128) }
-    ensures { (time : ℕ) → outcome_of result ≡ quotas (limits_of limits) (work_rows held.now batch.now time (column scratch.now 0 n)) }
+    ensures { (time : ℕ) → result ≡ quotas (limits_of limits) (work_rows held.now batch.now time (column scratch.now 0 n)) }
 {
     if n as u64 > limits.max_pending {
-        return Outcome::Refused(Refusal::HeldOverflow {
+        return Err(Refusal::HeldOverflow {
             limit: limits.max_pending,
         });
     }
     if bytes_over(held, batch, scratch, n, limits.max_pending_bytes) {
-        return Outcome::Refused(Refusal::HeldBytes {
+        return Err(Refusal::HeldBytes {
             limit: limits.max_pending_bytes,
         });
     }
-    let over = author_over(held, batch, scratch, n, limits.max_pending_per_actor);
-    match over {
-        Over::Nobody => Outcome::Done,
-        Over::Author(a) => Outcome::Refused(Refusal::AuthorOverflow {
+    match author_over(held, batch, scratch, n, limits.max_pending_per_actor) {
+        None => Ok(()),
+        Some(a) => Err(Refusal::AuthorOverflow {
             limit: limits.max_pending_per_actor,
             actor: ActorId(a),
         }),
@@ -96,19 +96,19 @@ pub fn room(
     scratch: &[u8],
     m: usize,
     authors: usize,
-) -> Outcome
+) -> Result<(), Refusal>
     requires { Sound log.now head.now × (refs_ok held.now batch.now (column scratch.now 8 m) ≡ true) × (16 * m ≤ length scratch.now) × (m ≤ 128) }
-    ensures { Rooms log.now head.now (rows_logged held.now batch.now scratch.now m) authors (outcome_of result) }
+    ensures { Rooms log.now head.now (rows_logged held.now batch.now scratch.now m) authors result }
 {
     let count = get_word(head, 0) as usize;
     if count + m > capacity(log) {
-        return Outcome::Refused(Refusal::LogFull);
+        return Err(Refusal::LogFull);
     }
     if authors > 32 {
-        return Outcome::Refused(Refusal::AuthorsFull);
+        return Err(Refusal::AuthorsFull);
     }
     if !marks_fit(held, batch, head, scratch, m) {
-        return Outcome::Refused(Refusal::AuthorsFull);
+        return Err(Refusal::AuthorsFull);
     }
-    Outcome::Done
+    Ok(())
 }

@@ -9,8 +9,8 @@ ghost use Rattle.quota.specs.Inside.Room.{rows_logged};
 ghost use Rattle.words.specs.Be.{column};
 
 use crate::authors::author_of;
-use clock::raw::observed;
-use clock::vector::{Outcome, VectorClock};
+use clock::raw::observe;
+use clock::vector::VectorClock;
 use stubs::ActorId;
 use words::raw::get_word;
 
@@ -22,16 +22,14 @@ fn marked_authors(head: &[u8]) -> VectorClock
     let count = get_word(head, 1088) as usize;
     let mut authors = [0u64; 32];
     let mut numbers = [0u64; 32];
-    let mut i: usize = 0;
-    while i < count {
+    for i in 0..count {
         authors[i] = get_word(head, 1096 + 32 * i);
         numbers[i] = 1;
-        i += 1;
     }
     VectorClock {
-        authors: authors,
-        numbers: numbers,
-        count: count,
+        authors,
+        numbers,
+        count,
     }
 }
 
@@ -47,17 +45,12 @@ pub(crate) fn authors_fit(
     ensures { result ≡ leb (length (run true (entries start) (rows_logged held.now batch.now scratch.now m))) 32 }
 {
     let mut clock = start;
-    let mut i: usize = 0;
-    while i < m {
+    for i in 0..m {
         let k = get_word(scratch, 16 * i + 8);
         let author = author_of(held, batch, k);
-        let step = observed(clock, ActorId(author), 1);
-        let told = step.outcome;
-        let Outcome::Done = told else {
+        if observe(&mut clock, ActorId(author), 1).is_err() {
             return false;
-        };
-        clock = step.clock;
-        i += 1;
+        }
     }
     true
 }

@@ -3,27 +3,25 @@
 #![tactic(auto)]
 
 use batch::MergeLimits;
-use clock::hybrid::{HybridClock, Issued};
+use clock::hybrid::HybridClock;
 use clock::stamp::Timestamp;
-use clock::vector::Outcome;
 use error::Refusal;
 use merge::delta::apply_delta;
 use merge::floor::set_floor;
-use merge::{Joined, MergeReport};
+use merge::{Joined, Merged};
 use replicated_log::change::insert;
 use replicated_log::lookup::lookup;
-use std::io;
 use std::io::{ErrorKind, Read};
+use std::{fmt, io};
 use stubs::ActorId;
 use words::raw::{copy, get_word};
 
 // What every byte of scratch and output is before a batch call.
 const UNTOUCHED: u8 = 165;
 
-// What a record came to: as recorded, not a record of the sample's format, or what differs first.
+// What differs first in a record; or it is not a record of the sample's format.
 #[derive(Clone, Copy)]
-enum Verdict {
-    Same,
+enum Difference {
     Unreadable,
     Answer,
     Counts,
@@ -37,8 +35,27 @@ enum Verdict {
     Head,
 }
 
+impl fmt::Display for Difference {
+    fn fmt<W: fmt::Write>(&self, f: &mut fmt::Formatter<W>) -> fmt::Result {
+        let text = match self {
+            Difference::Unreadable => "cannot be read",
+            Difference::Answer => "the answer differs",
+            Difference::Counts => "the counts differ",
+            Difference::Clock => "the hybrid clock differs",
+            Difference::Scratch => "scratch is not zero",
+            Difference::Lines => "the lines of the output differ",
+            Difference::Behind => "the output behind the lines has changed",
+            Difference::Payload => "the payload differs",
+            Difference::Log => "the log area differs",
+            Difference::Held => "the held area differs",
+            Difference::Head => "the head area differs",
+        };
+        f.write_str(text)
+    }
+}
+
 // How many records of each kind came out as recorded, and how many stamps could not be folded.
-#[derive(Clone, Copy)]
+#[derive(Clone, Copy, Default)]
 struct Tally {
     stores: u64,
     floors: u64,
@@ -71,7 +88,7 @@ fn main(rt: HostRuntime) -> io::Result<()> {
         &mut output,
     )?;
     if !all {
-        say(&rt, "replay: NOT as recorded\n")?;
+        println!(rt; "replay: NOT as recorded")?;
     }
     Ok(())
 }
@@ -90,23 +107,16 @@ fn replay(
 ) -> io::Result<bool> {
     let mut record = [0u8; 272];
     let count = begin(sample)?;
-    let mut tally = Tally {
-        stores: 0,
-        floors: 0,
-        batches: 0,
-        refused: 0,
-        failed: 0,
-        rows: 0,
-        lookups: 0,
-    };
+    let mut tally = Tally::default();
     let mut size: usize = 0;
     for i in 0..count {
         let whole = read_whole(sample, &mut record)?;
         size = log_size(&record, size);
-        let verdict = turn(
+        let compared = turn(
             sample, &record, whole, size, log, held, head, block, lines, scratch, output,
         )?;
-        if !agrees(rt, i + 1, verdict)? {
+        if let Err(difference) = compared {
+            println!(rt; "record {}: {difference}", i + 1)?;
             return Ok(false);
         }
         tally = tallied(&record, tally);
@@ -145,12 +155,8 @@ fn word(words: &[u8], i: usize) -> u64 {
 fn read_whole(sample: &mut impl Read, s: &mut [u8]) -> io::Result<bool> {
     match sample.read_exact(s) {
         Ok(()) => Ok(true),
-        Err(e) => {
-            if e.kind() == ErrorKind::UnexpectedEof {
-                return Ok(false);
-            }
-            Err(e)
-        }
+        Err(e) if e.kind() == ErrorKind::UnexpectedEof => Ok(false),
+        Err(e) => Err(e),
     }
 }
 
@@ -187,17 +193,17 @@ fn turn(
     lines: &mut [u8],
     scratch: &mut [u8],
     output: &mut [u8],
-) -> io::Result<Verdict> {
+) -> io::Result<Result<(), Difference>> {
     if !whole {
-        return Ok(Verdict::Unreadable);
+        return Ok(Err(Difference::Unreadable));
     }
     let n = word(record, 1) as usize;
     let m = word(record, 2) as usize;
     if !read_first(sample, block, n)? {
-        return Ok(Verdict::Unreadable);
+        return Ok(Err(Difference::Unreadable));
     }
     if !read_first(sample, lines, m)? {
-        return Ok(Verdict::Unreadable);
+        return Ok(Err(Difference::Unreadable));
     }
     Ok(lend(
         record, size, log, held, head, block, n, lines, m, scratch, output,
@@ -217,23 +223,16 @@ fn lend(
     m: usize,
     scratch: &mut [u8],
     output: &mut [u8],
-) -> Verdict {
+) -> Result<(), Difference> {
     let r = word(record, 11) as usize;
     let w = word(record, 12) as usize;
-    if size > log.len() {
-        return Verdict::Unreadable;
-    }
-    if n > block.len() {
-        return Verdict::Unreadable;
-    }
-    if m > lines.len() {
-        return Verdict::Unreadable;
-    }
-    if r > scratch.len() {
-        return Verdict::Unreadable;
-    }
-    if w > output.len() {
-        return Verdict::Unreadable;
+    if size > log.len()
+        || n > block.len()
+        || m > lines.len()
+        || r > scratch.len()
+        || w > output.len()
+    {
+        return Err(Difference::Unreadable);
     }
     judge(
         record,
@@ -257,11 +256,8 @@ fn judge(
     lines: &[u8],
     scratch: &mut [u8],
     output: &mut [u8],
-) -> Verdict {
-    let verdict = act(record, log, held, head, block, lines, scratch, output);
-    let Verdict::Same = verdict else {
-        return verdict;
-    };
+) -> Result<(), Difference> {
+    act(record, log, held, head, block, lines, scratch, output)?;
     areas_are(record, log, held, head)
 }
 
@@ -275,47 +271,53 @@ fn act(
     lines: &[u8],
     scratch: &mut [u8],
     output: &mut [u8],
-) -> Verdict {
+) -> Result<(), Difference> {
     match word(record, 0) {
         1 => new_store(log, held, head, block),
         2 => floor_setting(record, log, held, head),
         3 => batch_call(record, log, held, head, block, lines, scratch, output),
         4 => local_row(log, held, head, block),
         5 => row_lookup(record, log, held, head, block),
-        _ => Verdict::Unreadable,
+        _ => Err(Difference::Unreadable),
     }
 }
 
 // Areas of zeros, with the block as clock and compacted clock.
-fn new_store(log: &mut [u8], held: &mut [u8], head: &mut [u8], clock: &[u8]) -> Verdict {
+fn new_store(
+    log: &mut [u8],
+    held: &mut [u8],
+    head: &mut [u8],
+    clock: &[u8],
+) -> Result<(), Difference> {
     words::zero(log);
     words::zero(held);
     words::zero(head);
-    if clock.len() > 520 {
-        return Verdict::Unreadable;
-    }
-    if head.len() < 1088 {
-        return Verdict::Unreadable;
+    if clock.len() > 520 || head.len() < 1088 {
+        return Err(Difference::Unreadable);
     }
     copy(head, 48, clock);
     copy(head, 568, clock);
-    Verdict::Same
+    Ok(())
 }
 
-fn floor_setting(record: &[u8], log: &[u8], held: &[u8], head: &mut [u8]) -> Verdict {
-    let counter = word(record, 4);
-    if counter > 4294967295 {
-        return Verdict::Unreadable;
-    }
+fn floor_setting(
+    record: &[u8],
+    log: &[u8],
+    held: &[u8],
+    head: &mut [u8],
+) -> Result<(), Difference> {
+    let Ok(logical_counter) = u32::try_from(word(record, 4)) else {
+        return Err(Difference::Unreadable);
+    };
     let floor = Timestamp {
         wall_time: word(record, 3),
-        logical_counter: counter as u32,
+        logical_counter,
         actor_id: ActorId(word(record, 5)),
     };
     done(set_floor(log, held, head, floor))
 }
 
-fn local_row(log: &mut [u8], held: &[u8], head: &mut [u8], slot: &[u8]) -> Verdict {
+fn local_row(log: &mut [u8], held: &[u8], head: &mut [u8], slot: &[u8]) -> Result<(), Difference> {
     done(insert(log, held, head, slot))
 }
 
@@ -326,21 +328,18 @@ fn row_lookup<'a>(
     held: &'a [u8],
     head: &[u8],
     payload: &[u8],
-) -> Verdict {
+) -> Result<(), Difference> {
     let actor = ActorId(word(record, 3));
     let part = lookup(log, held, head, actor, word(record, 4));
     if part != payload {
-        return Verdict::Payload;
+        return Err(Difference::Payload);
     }
-    Verdict::Same
+    Ok(())
 }
 
 // Floor settings and local rows were recorded where they are accepted.
-fn done(outcome: Outcome) -> Verdict {
-    match outcome {
-        Outcome::Done => Verdict::Same,
-        Outcome::Refused(_) => Verdict::Answer,
-    }
+fn done(answer: Result<(), Refusal>) -> Result<(), Difference> {
+    answer.or(Err(Difference::Answer))
 }
 
 fn batch_call(
@@ -352,17 +351,14 @@ fn batch_call(
     lines: &[u8],
     scratch: &mut [u8],
     output: &mut [u8],
-) -> Verdict {
-    let counter = word(record, 26);
-    if counter > 4294967295 {
-        return Verdict::Unreadable;
-    }
-    let hybrid = clock_of(record, counter as u32);
-    let answer = offer(record, hybrid, log, held, head, batch, scratch, output);
-    let verdict = answer_is(record, answer);
-    let Verdict::Same = verdict else {
-        return verdict;
+) -> Result<(), Difference> {
+    let Ok(counter) = u32::try_from(word(record, 26)) else {
+        return Err(Difference::Unreadable);
     };
+    let hybrid = clock_of(record, counter);
+    let joined = offer(record, hybrid, log, held, head, batch, scratch, output);
+    answer_is(record, joined.answer)?;
+    clock_is(record, joined.left)?;
     written_is(lines, scratch, output)
 }
 
@@ -377,8 +373,8 @@ fn offer(
     scratch: &mut [u8],
     output: &mut [u8],
 ) -> Joined {
-    fill(scratch);
-    fill(output);
+    scratch.fill(UNTOUCHED);
+    output.fill(UNTOUCHED);
     let limits = limits_of(record);
     let time = word(record, 3);
     apply_delta(
@@ -407,45 +403,28 @@ fn clock_of(record: &[u8], counter: u32) -> HybridClock {
     }
 }
 
-fn fill(s: &mut [u8]) {
-    for x in s.iter_mut() {
-        *x = UNTOUCHED;
-    }
-}
-
 // Whether the answer is the recorded one. A refusal is recorded with counts of 0, a report with a refusal of 0.
-fn answer_is(record: &[u8], answer: Joined) -> Verdict {
-    match answer {
-        Joined::Refused { refusal, clock } => {
-            clock_is(record, refusal_is(record, refusal), clock)
-        }
-        Joined::Report {
-            report,
-            failed,
-            clock,
-        } => clock_is(record, report_is(record, report, failed), clock),
-    }
-}
-
-fn refusal_is(record: &[u8], r: Refusal) -> Verdict {
-    let told = [error::number(r), error::first(r), error::second(r)];
+fn answer_is(record: &[u8], answer: Result<Merged, Refusal>) -> Result<(), Difference> {
+    let (told, counts) = match answer {
+        Ok(merged) => ([0; 3], counts_of(merged)),
+        Err(r) => (
+            [error::number(r), error::first(r), error::second(r)],
+            [0; 8],
+        ),
+    };
     if !words_are(record, 13, &told) {
-        return Verdict::Answer;
+        return Err(Difference::Answer);
     }
-    let none = [0u64; 8];
-    if !words_are(record, 16, &none) {
-        return Verdict::Counts;
+    if !words_are(record, 16, &counts) {
+        return Err(Difference::Counts);
     }
-    Verdict::Same
+    Ok(())
 }
 
 // The counts, and how many stamps could not be folded.
-fn report_is(record: &[u8], r: MergeReport, failed: u64) -> Verdict {
-    let none = [0u64; 3];
-    if !words_are(record, 13, &none) {
-        return Verdict::Answer;
-    }
-    let counts = [
+fn counts_of(merged: Merged) -> [u64; 8] {
+    let r = merged.report;
+    [
         r.applied,
         r.stale,
         r.rejected,
@@ -453,36 +432,25 @@ fn report_is(record: &[u8], r: MergeReport, failed: u64) -> Verdict {
         r.held,
         r.expired,
         r.dropped,
-        failed,
-    ];
-    if !words_are(record, 16, &counts) {
-        return Verdict::Counts;
-    }
-    Verdict::Same
+        merged.failed,
+    ]
 }
 
-// Where nothing differs so far: whether the clock issues the recorded stamp at the time of the call, or none.
-fn clock_is(record: &[u8], verdict: Verdict, clock: HybridClock) -> Verdict {
-    let Verdict::Same = verdict else {
-        return verdict;
-    };
-    let same = match clock.now(word(record, 3)) {
-        Issued::Stamp { stamp, clock: _ } => stamp_is(record, stamp),
-        Issued::Refused { refusal, clock: _ } => no_stamp_is(record, refusal),
+// Whether the clock issues the recorded stamp at the time of the call, or none.
+fn clock_is(record: &[u8], clock: HybridClock) -> Result<(), Difference> {
+    let same = match clock.now(word(record, 3)).answer {
+        Ok(stamp) => stamp_is(record, stamp),
+        Err(refusal) => no_stamp_is(record, refusal),
     };
     if !same {
-        return Verdict::Clock;
+        return Err(Difference::Clock);
     }
-    Verdict::Same
+    Ok(())
 }
 
 fn stamp_is(record: &[u8], stamp: Timestamp) -> bool {
-    let ActorId(actor) = stamp.actor_id;
-    if actor != word(record, 24) {
-        return false;
-    }
-    let issued = [0, stamp.wall_time, stamp.logical_counter as u64];
-    words_are(record, 28, &issued)
+    let issued = [0, stamp.wall_time, u64::from(stamp.logical_counter)];
+    stamp.actor_id.0 == word(record, 24) && words_are(record, 28, &issued)
 }
 
 fn no_stamp_is(record: &[u8], r: Refusal) -> bool {
@@ -491,9 +459,9 @@ fn no_stamp_is(record: &[u8], r: Refusal) -> bool {
 }
 
 // Whether the record's words from `from` on are these.
-fn words_are(record: &[u8], from: u32, numbers: &[u64]) -> bool {
+fn words_are(record: &[u8], from: u8, numbers: &[u64]) -> bool {
     for (i, number) in numbers.iter().enumerate() {
-        if word(record, from as usize + i) != *number {
+        if word(record, usize::from(from) + i) != *number {
             return false;
         }
     }
@@ -501,21 +469,18 @@ fn words_are(record: &[u8], from: u32, numbers: &[u64]) -> bool {
 }
 
 // Whether scratch is zero, and the output the lines and then as it was.
-fn written_is(lines: &[u8], scratch: &[u8], output: &[u8]) -> Verdict {
+fn written_is(lines: &[u8], scratch: &[u8], output: &[u8]) -> Result<(), Difference> {
     if !words::is_zero(scratch) {
-        return Verdict::Scratch;
+        return Err(Difference::Scratch);
     }
     let n = lines.len();
-    if n > output.len() {
-        return Verdict::Lines;
-    }
-    if &output[..n] != lines {
-        return Verdict::Lines;
+    if n > output.len() || &output[..n] != lines {
+        return Err(Difference::Lines);
     }
     if !is_untouched(&output[n..]) {
-        return Verdict::Behind;
+        return Err(Difference::Behind);
     }
-    Verdict::Same
+    Ok(())
 }
 
 fn is_untouched(s: &[u8]) -> bool {
@@ -523,31 +488,26 @@ fn is_untouched(s: &[u8]) -> bool {
 }
 
 // Whether the areas have the recorded check numbers.
-fn areas_are(record: &[u8], log: &[u8], held: &[u8], head: &[u8]) -> Verdict {
+fn areas_are(record: &[u8], log: &[u8], held: &[u8], head: &[u8]) -> Result<(), Difference> {
     if check_number(log) != word(record, 31) {
-        return Verdict::Log;
+        return Err(Difference::Log);
     }
     if check_number(held) != word(record, 32) {
-        return Verdict::Held;
+        return Err(Difference::Held);
     }
     if check_number(head) != word(record, 33) {
-        return Verdict::Head;
+        return Err(Difference::Head);
     }
-    Verdict::Same
+    Ok(())
 }
 
 // 0, and for each word rotated left by 5 bits, the word added.
 fn check_number(area: &[u8]) -> u64 {
     let mut sum: u64 = 0;
     for i in 0..area.len() / 8 {
-        sum = rotated(sum).wrapping_add(word(area, i));
+        sum = sum.rotate_left(5).wrapping_add(word(area, i));
     }
     sum
-}
-
-// Rotated left by 5 bits.
-fn rotated(x: u64) -> u64 {
-    x.rotate_left(5)
 }
 
 // Counts a record that came out as recorded.
@@ -566,61 +526,30 @@ fn tallied(record: &[u8], t: Tally) -> Tally {
 
 // One more where it is one.
 fn more(n: u64, one: bool) -> u64 {
-    if one {
-        return n.wrapping_add(1);
-    }
-    n
-}
-
-// Says what differs in a record, and answers whether nothing does.
-fn agrees(rt: &impl Print, i: u64, verdict: Verdict) -> io::Result<bool> {
-    match verdict {
-        Verdict::Same => Ok(true),
-        Verdict::Unreadable => differs(rt, i, "cannot be read"),
-        Verdict::Answer => differs(rt, i, "the answer differs"),
-        Verdict::Counts => differs(rt, i, "the counts differ"),
-        Verdict::Clock => differs(rt, i, "the hybrid clock differs"),
-        Verdict::Scratch => differs(rt, i, "scratch is not zero"),
-        Verdict::Lines => differs(rt, i, "the lines of the output differ"),
-        Verdict::Behind => differs(rt, i, "the output behind the lines has changed"),
-        Verdict::Payload => differs(rt, i, "the payload differs"),
-        Verdict::Log => differs(rt, i, "the log area differs"),
-        Verdict::Held => differs(rt, i, "the held area differs"),
-        Verdict::Head => differs(rt, i, "the head area differs"),
-    }
-}
-
-fn differs(rt: &impl Print, i: u64, text: &str) -> io::Result<bool> {
-    println!(rt; "record {i}: {text}")?;
-    Ok(false)
+    n.wrapping_add(u64::from(one))
 }
 
 // Says how many records there were, and answers whether that is all of a sample.
 fn finish(rt: &impl Print, sample: &mut impl Read, count: u64, t: Tally) -> io::Result<bool> {
     if count == 0 {
-        say(rt, "not a sample, or an empty one\n")?;
+        println!(rt; "not a sample, or an empty one")?;
         return Ok(false);
     }
-    let mut next = [0u8; 1];
-    if read_whole(sample, &mut next)? {
-        say(rt, "the sample goes on after its last record\n")?;
+    if read_whole(sample, &mut [0; 1])? {
+        println!(rt; "the sample goes on after its last record")?;
         return Ok(false);
     }
-    say(rt, "replay: ")?;
-    say_count(rt, t.stores, " stores, ")?;
-    say_count(rt, t.floors, " floor settings, ")?;
-    say_count(rt, t.batches, " batch calls (")?;
-    say_count(rt, t.refused, " refused, ")?;
-    say_count(rt, t.failed, " folds failed), ")?;
-    say_count(rt, t.rows, " rows inserted, ")?;
-    say_count(rt, t.lookups, " payloads looked up: all as recorded\n")?;
+    print!(rt;
+        "replay: {} stores, {} floor settings, ",
+        t.stores, t.floors
+    )?;
+    print!(rt;
+        "{} batch calls ({} refused, {} folds failed), ",
+        t.batches, t.refused, t.failed
+    )?;
+    println!(rt;
+        "{} rows inserted, {} payloads looked up: all as recorded",
+        t.rows, t.lookups
+    )?;
     Ok(true)
-}
-
-fn say_count(rt: &impl Print, n: u64, text: &str) -> io::Result<()> {
-    print!(rt; "{n}{text}")
-}
-
-fn say(rt: &impl Print, text: &str) -> io::Result<()> {
-    print!(rt; "{text}")
 }

@@ -14,6 +14,7 @@ pub mod ReadSteps
 pub mod DepsLoop
 pub mod ReadWhole
 pub mod ReadUnsigned
+pub mod ColumnWalk
 pub mod PartLengths
 pub mod SlotWrites
 pub mod OpCalls

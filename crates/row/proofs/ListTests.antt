@@ -32,6 +32,11 @@ told_not {b} t e = told t (not-false b e)
 pub denied_not : {P : Type 0} {b : Bool} → Tells P b → not b ≡ true → P → ⊥
 denied_not {b} t e = denied t (not-true b e)
 
+-- a test that holds just where P does
+pub tells_by : {P : Type 0} (b : Bool) → (b ≡ true → P) → (P → b ≡ true) → Tells P b
+tells_by true f g = is_true (f refl)
+tells_by false f g = is_false (λ p. let e : false ≡ true = g p in cc)
+
 pub never : (t : Bool) → (t ≡ true → ⊥) → t ≡ false
 never true n = absurd (n refl)
 never false n = refl
@@ -40,11 +45,6 @@ never false n = refl
 pub told_by_lem : {P : Type 0} {b : Bool} (t : Bool) → (P → t ≡ true) → (t ≡ true → P) → Tells P b → b ≡ t
 told_by_lem t f g (is_true p) = sym (f p)
 told_by_lem t f g (is_false n) = sym (never t (λ e. n (g e)))
-
--- a Boolean as a view of itself
-pub tells_self : (t : Bool) → Tells (t ≡ true) t
-tells_self true = is_true refl
-tells_self false = is_false (λ e. let z : ◌≡◌ {A = ℕ} 0 1 = cc in omega arith)
 
 -- ---- lists
 pub same_true : (x y : List ℕ) → same x y ≡ true → x ≡ y

@@ -13,11 +13,14 @@ use Rattle.error.specs.declared.Refusal.TheVariants.{Unreadable, OverCapacity}
 use Rattle.error.specs.Answer.{got}
 use Rattle.codec.specs.Leb128.{shortest}
 use Rattle.codec.specs.Writing.{sized}
-use Rattle.codec.specs.Reading.{get_varint, get_u32, Part, part_of}
+use Rattle.codec.specs.Reading.{get_varint, get_u32, part_of}
+use Rattle.codec.specs.declared.Part.{Part}
 use Rattle.codec.proofs.RoundTrip.{u32_is_varint}
 use Rattle.codec.proofs.OneSpelling.{Stand, joined, part_stands, varint_stands}
 use Rattle.codec.proofs.ReadSteps.{got_value, got_next, by, past}
-use Rattle.row.specs.Reading.{number, Head, get_head, read_head, read_pair, read_pairs, read_deps, read_part, Closing, read_closing, BatchRow, read_row}
+use Rattle.row.specs.Reading.{number, get_head, read_head, read_pair, read_pairs, read_deps, read_part, read_closing, BatchRow, read_row}
+use Rattle.row.specs.declared.reader.Head.{Head}
+use Rattle.row.specs.declared.reader.Closing.{Closing}
 use Rattle.row.specs.Wire.{stamped_bytes, pair_bytes, deps_bytes, unsigned_bytes, signed_bytes}
 use Rattle.row.specs.RoundTrip.{batch_row_bytes, OnlyWritten}
 use Rattle.row.proofs.ReadRows.{readable, pairs_got}
@@ -28,7 +31,7 @@ module _ (s : List ℕ) (bs : AllBytes s) where
   number_stands at v n e = varint_stands s at v n bs (readable (get_varint s at) e)
 
   pub head_stands : (at : ℕ) (h : Head) (n : ℕ) → read_head s at ≡ got h n → (ds : List (ℕ × ℕ)) (payload signature : List ℕ)
-      → Stand s at n (stamped_bytes (record { stamp = h.stamp; author = h.author; seq = h.seq; deps = ds; payload = payload; signature = signature }))
+      → Stand s at n (stamped_bytes (record { stamp = h.timestamp; author = h.actor.0; seq = h.seq; deps = ds; payload = payload; signature = signature }))
   unfolding read_head get_head stamped_bytes
   head_stands at h n e ds payload signature =
       by (get_varint s at) _ (readable (get_head s at) e) (λ w a1 n1 e1.

@@ -101,7 +101,7 @@ module _ (s : List ℕ) (r : Row) (g : HeldGood (logged r)) where
     seq : List ℕ
     seq = shortest r.seq
 
-    pub get_head_there : got (record { stamp = r.stamp; author = r.author; seq = r.seq }) (at + length (stamped_bytes r)) ≡ get_head s at
+    pub get_head_there : got (record { timestamp = r.stamp; actor = record { 0 = r.author }; seq = r.seq }) (at + length (stamped_bytes r)) ≡ get_head s at
     unfolding get_head stamped_bytes wall counter stamper author seq
     get_head_there =
         let e1 : drop at s ≡ wall ++ (counter ++ (stamper ++ (author ++ (seq ++ q)))) = e ∙ simp append_assoc in
@@ -120,7 +120,7 @@ module _ (s : List ℕ) (r : Row) (g : HeldGood (logged r)) where
         (on _ (varint_there s (at + length wall + length counter + length stamper + length author) _ _ g.seq e5)
         (rw m)))))
 
-    pub head_there : got (record { stamp = r.stamp; author = r.author; seq = r.seq }) (at + length (stamped_bytes r)) ≡ read_head s at
+    pub head_there : got (record { timestamp = r.stamp; actor = record { 0 = r.author }; seq = r.seq }) (at + length (stamped_bytes r)) ≡ read_head s at
     unfolding read_head
     head_there = ap unreadable get_head_there
 
@@ -173,7 +173,7 @@ module _ (s : List ℕ) (r : Row) (g : HeldGood (logged r)) where
     unfolding closing_at close
     closing_stands = behind s signature_at signature _ signature_stands
 
-    parts : batch_row s (record { stamp = r.stamp; author = r.author; seq = r.seq }) r.deps (within payload_at_lem r.payload) (within signature_at r.signature) (record { verdict = v; outcome = o; detail = d })
+    parts : batch_row s (record { timestamp = r.stamp; actor = record { 0 = r.author }; seq = r.seq }) r.deps (within payload_at_lem r.payload) (within signature_at r.signature) (record { verdict = v; outcome = o; detail = d })
         ≡ record { row = r; closing = record { verdict = v; outcome = o; detail = d } }
     unfolding payload signature
     parts =

@@ -2,5 +2,5 @@
 #![tactic(auto)]
 
 // Identifies an author. Its own type, apart from sequence numbers, which are plain u64.
-#[derive(Clone, Copy)]
+#[derive(Clone, Copy, Debug, PartialEq, Eq, PartialOrd, Ord)]
 pub struct ActorId(pub u64);

@@ -1,15 +1,16 @@
 -- The tests of a call over a store and a peer's clock, and what they leave.
 use Prim.Native.Nat.{ℕ, ◌*◌, ◌/◌, ◌≤◌, ◌<◌}
 use mathlib.Core.Path.{◌≡◌, refl, sym, ◌∙◌, ap}
-use mathlib.Core.Bool.{Bool, true, false, not}
+use mathlib.Core.Bool.{Bool, true, false}
 use mathlib.Core.List.{List}
 use native.Mathlib.Omega.{arith}
 use lib.Dec.{leb}
 use lib.ListN.{length}
-use borrow.Author.Tests.{leb-true, le-leb, lt-leb, not-true, not-false}
+use borrow.Author.Tests.{leb-true, le-leb, lt-leb}
 use Rattle.words.specs.Be.{get64}
 use Rattle.error.specs.declared.Refusal.{Refusal}
 use Rattle.error.specs.declared.Refusal.TheVariants.{UnsoundStore, ShortArea}
+use Rattle.std.specs.declared.result.Result.TheVariants.{Ok, Err}
 use Rattle.error.specs.Answer.{Answer, done, refused, and_then, unless, ends}
 use Rattle.clock.specs.declared.vector.VectorClock.{VectorClock}
 use Rattle.clock.specs.Vector.{entries, sound}
@@ -30,12 +31,12 @@ pub record Went {A B : Type 0} (x : Answer A) (f : A → Answer B) (v : B) : Typ
   pub on : f value ≡ done v
 
 pub went : {A B : Type 0} (x : Answer A) (f : A → Answer B) (v : B) → and_then x f ≡ done v → Went x f v
-went (done a) f v e = record { value = a; is = refl; on = e }
-went (refused r) f v e = absurd (let z : ◌≡◌ {A = ℕ} 0 1 = cc in omega arith)
+went (Ok a) f v e = record { value = a; is = refl; on = e }
+went (Err r) f v e = absurd (cc)
 
 pub passes : {A : Type 0} (b : Bool) (r : Refusal) (x : Answer A) (v : A) → unless b r x ≡ done v → (b ≡ true) × (x ≡ done v)
 passes true r x v e = (refl, e)
-passes false r x v e = absurd (let z : ◌≡◌ {A = ℕ} 0 1 = cc in omega arith)
+passes false r x v e = absurd (cc)
 
 refusal : {A B : Type 0} (r q : Refusal) → ◌≡◌ {A = Answer A} (refused r) (refused q) → ◌≡◌ {A = Answer B} (refused r) (refused q)
 refusal r q e =
@@ -45,8 +46,8 @@ refusal r q e =
 -- two calls that go the same way are refused alike
 then_stops : {A B C : Type 0} (x : Answer A) (f : A → Answer B) (g : A → Answer C) (q : Refusal) → ((v : A) → f v ≡ refused q → g v ≡ refused q)
     → and_then x f ≡ refused q → and_then x g ≡ refused q
-then_stops (done a) f g q h e = h a e
-then_stops (refused r) f g q h e = refusal r q e
+then_stops (Ok a) f g q h e = h a e
+then_stops (Err r) f g q h e = refusal r q e
 
 test_stops : {B C : Type 0} (b : Bool) (r : Refusal) (x : Answer B) (y : Answer C) (q : Refusal) → (x ≡ refused q → y ≡ refused q)
     → unless b r x ≡ refused q → unless b r y ≡ refused q
@@ -54,30 +55,30 @@ test_stops true r x y q h e = h e
 test_stops false r x y q h e = refusal r q e
 
 never_stops : {B C : Type 0} (v : B) (q : Refusal) (y : Answer C) → done v ≡ refused q → y ≡ refused q
-never_stops v q y e = absurd (let z : ◌≡◌ {A = ℕ} 0 1 = cc in omega arith)
+never_stops v q y e = absurd (cc)
 
 -- ---- the count of the rows
 -- c and b are what the code read and tested
 module _ (n : ℕ) (peer : List ℕ) (l : 520 ≤ length peer) (c : VectorClock) (b : Bool) (e : c ≡ clock_at peer 0) (f : b ≡ sound c) where
-  pub count_unsound : not b ≡ true → refused UnsoundStore ≡ count_of n peer
+  pub count_unsound : b ≡ false → refused UnsoundStore ≡ count_of n peer
   unfolding count_of read_clock
   count_unsound t =
-      let h : sound (clock_at peer 0) ≡ false = rw (← e) (sym f ∙ not-true b t) in
+      let h : sound (clock_at peer 0) ≡ false = rw (← e) (sym f ∙ t) in
       rw (le-leb 520 (length peer) l, h)
 
-  pub count_sound : not b ≡ false → done n ≡ count_of n peer
+  pub count_sound : b ≡ true → done n ≡ count_of n peer
   unfolding count_of read_clock
   count_sound t =
-      let h : sound (clock_at peer 0) ≡ true = rw (← e) (sym f ∙ not-false b t) in
+      let h : sound (clock_at peer 0) ≡ true = rw (← e) (sym f ∙ t) in
       rw (le-leb 520 (length peer) l, h)
 
 on_len : (x : Answer Store) (f : ℕ → Answer ℕ) (n : ℕ) → done n ≡ and_then x (λ s. done (length s.log)) → f n ≡ and_then x (λ s. f (length s.log))
-on_len (done s) f n e = ap f (let q : n ≡ length s.log = cc in q)
-on_len (refused r) f n e = absurd (let z : ◌≡◌ {A = ℕ} 0 1 = cc in omega arith)
+on_len (Ok s) f n e = ap f (let q : n ≡ length s.log = cc in q)
+on_len (Err r) f n e = absurd (cc)
 
 off_len : (x : Answer Store) (f : ℕ → Answer ℕ) (r : Refusal) → refused r ≡ and_then {B = ℕ} x (λ s. done (length s.log)) → refused r ≡ and_then x (λ s. f (length s.log))
-off_len (done s) f r e = absurd (let z : ◌≡◌ {A = ℕ} 0 1 = cc in omega arith)
-off_len (refused q) f r e = e
+off_len (Ok s) f r e = absurd (cc)
+off_len (Err q) f r e = e
 
 module _ (a : Areas) (peer : List ℕ) where
   pub count_short : length peer < 520 → refused ShortArea ≡ count_call a peer

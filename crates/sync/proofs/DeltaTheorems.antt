@@ -8,7 +8,7 @@ use native.Mathlib.Omega.{arith}
 use lib.Dec.{eqb, ltb}
 use lib.ListN.{length, length-append}
 use borrow.Author.Tests.{eqb-true, eqb-false, ltb-true, ltb-false}
-use Rattle.words.proofs.Words.{test}
+use Rattle.std.proofs.lemmas.Bool.{cases_Bool}
 use Rattle.row.specs.Rows.{Row}
 use Rattle.sync.specs.Delta.{delta, delta_rows, row_size, at_least_one, chunks, chunk_ops}
 use Rattle.sync.specs.Inside.DeltaSteps.{starts_next}
@@ -25,7 +25,7 @@ unfolding delta
 rising_delta peer i hi [] h = none
 rising_delta peer i hi (r ∷ rs) h =
     let g : Rising (i + 1) hi (delta peer (i + 1) rs) = rising_delta peer (i + 1) hi rs (omega arith) in
-    elim (test (unseen peer r)) [ inl e ↦ rw e (more {lo = i} {hi = hi} {p = i} (omega arith) (omega arith) g) | inr e ↦ rw e (rising_from i (omega arith) g) ]
+    elim (cases_Bool (unseen peer r)) [ inl e ↦ rw e (more {lo = i} {hi = hi} {p = i} (omega arith) (omega arith) g) | inr e ↦ rw e (rising_from i (omega arith) g) ]
 
 -- the positions strictly rise, and each is a logged row's
 pub delta_rising : DeltaRising
@@ -35,7 +35,7 @@ delta_rising peer rows = rising_delta peer 0 (length rows) rows (omega arith)
 pub delta_length_lem : (peer : List (ℕ × ℕ)) (i : ℕ) (rows : List Row) → length (delta peer i rows) ≡ length (delta_rows peer rows)
 unfolding delta delta_rows
 delta_length_lem peer i [] = refl
-delta_length_lem peer i (r ∷ rs) = elim (test (unseen peer r)) [ inl e ↦ rw e (ap suc (delta_length_lem peer (i + 1) rs)) | inr e ↦ rw e (delta_length_lem peer (i + 1) rs) ]
+delta_length_lem peer i (r ∷ rs) = elim (cases_Bool (unseen peer r)) [ inl e ↦ rw e (ap suc (delta_length_lem peer (i + 1) rs)) | inr e ↦ rw e (delta_length_lem peer (i + 1) rs) ]
 
 pub sizes_append : (x y : List Row) → sizes (x ++ y) ≡ sizes x + sizes y
 unfolding sizes
@@ -53,9 +53,9 @@ nothing (r ∷ l) e = absurd (omega arith)
 -- what a row that stays in the current chunk keeps
 stays : (most bytes n size : ℕ) → starts_next most bytes n size ≡ false → (n ≡ 0) ⊎ ((n ≡ most → ⊥) × (size ≤ bytes))
 unfolding starts_next
-stays most bytes n size e = elim (test (eqb n 0)) [
+stays most bytes n size e = elim (cases_Bool (eqb n 0)) [
   | inl a ↦ inl (eqb-true n 0 a)
-  | inr a ↦ elim (test (eqb n most)) [
+  | inr a ↦ elim (cases_Bool (eqb n most)) [
     | inl b ↦ absurd (let z : false ≡ true = sym e ∙ rw (a, b) in let y : ◌≡◌ {A = ℕ} 0 1 = cc in omega arith)
     | inr b ↦ inr (eqb-false n most b, ltb-false bytes size (rw (a, b) at e))
   ]
@@ -69,7 +69,7 @@ module _ (most bytes : ℕ) (o : 0 < most) where
   -- `now` are the current chunk's rows
   chunked : (n size : ℕ) (rows now : List Row) → length now ≡ n → sizes now ≡ size → n ≤ most → (n ≤ 1) ⊎ (size ≤ bytes)
       → Chunked most bytes (chunks most bytes n size rows) (now ++ rows)
-  chunked n size [] now l s h k = elim (test (eqb n 0)) [
+  chunked n size [] now l s h k = elim (cases_Bool (eqb n 0)) [
     | inl e ↦
         let z : n ≡ 0 = eqb-true n 0 e in
         rw (chunks_none most bytes n size z, nothing now (l ∙ z)) no_chunks
@@ -82,7 +82,7 @@ module _ (most bytes : ℕ) (o : 0 < most) where
       fits : (n size : ℕ) → (n ≤ 1) ⊎ (size ≤ bytes) → sizes now ≡ size → 0 < n → (n ≡ 1) ⊎ (sizes now ≤ bytes)
       fits n size (inl a) s p = inl (omega arith)
       fits n size (inr a) s p = inr (omega arith)
-  chunked n size (r ∷ rs) now l s h k = elim (test (starts_next most bytes n (size + row_size r))) [
+  chunked n size (r ∷ rs) now l s h k = elim (cases_Bool (starts_next most bytes n (size + row_size r))) [
     | inl e ↦
         let p : 0 < n = next_some most bytes n (size + row_size r) (sym e) in
         rw (chunks_next most bytes n size r rs (sym e))
@@ -103,11 +103,11 @@ module _ (most bytes : ℕ) (o : 0 < most) where
       fits (inr a) p = inr (omega arith)
 
       below : (n ≡ most → ⊥) → n + 1 ≤ most
-      below z = elim (test (ltb n most)) [ inl a ↦ omega (arith, ltb-true n most a) | inr a ↦ absurd (z (omega (arith, ltb-false n most a))) ]
+      below z = elim (cases_Bool (ltb n most)) [ inl a ↦ omega (arith, ltb-true n most a) | inr a ↦ absurd (z (omega (arith, ltb-false n most a))) ]
 
 one_most : (n : ℕ) → 0 < at_least_one n
 unfolding at_least_one
-one_most n = elim (test (eqb n 0)) [ inl e ↦ rw e (omega arith) | inr e ↦ rw e (pos n (eqb-false n 0 e)) ]
+one_most n = elim (cases_Bool (eqb n 0)) [ inl e ↦ rw e (omega arith) | inr e ↦ rw e (pos n (eqb-false n 0 e)) ]
 
 -- what chunk_ops gives is such a cut
 pub chunks_are : ChunksAre

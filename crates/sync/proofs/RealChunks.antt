@@ -13,10 +13,11 @@ use Rattle.words.specs.Names.{Clock}
 use Rattle.words.specs.Lists.{all}
 use Rattle.words.specs.Be.{bes}
 use Rattle.words.specs.Areas.{put_at}
-use Rattle.words.proofs.Words.{test}
+use Rattle.std.proofs.lemmas.Bool.{cases_Bool}
 use Rattle.words.proofs.Conjunction.{and_both}
 use Rattle.error.specs.declared.Refusal.TheVariants.{ShortArea, OverCapacity}
-use Rattle.error.specs.Answer.{done, refused, unless, Ends, ends}
+use Rattle.error.specs.Answer.{done, refused, unless, ends}
+use Rattle.error.specs.declared.Ends.{Ends}
 use Rattle.codec.specs.Writing.{write_call}
 use Rattle.codec.specs.Envelopes.{envelope}
 use Rattle.codec.proofs.WriterLaws.{length_envelope}
@@ -99,7 +100,7 @@ real_frame rows sender sig =
 -- what a call that writes has written
 written_are : (out left vs : List ℕ) (n : ℕ) → write_call out 0 vs ≡ ends (done n) left → (n ≡ length vs) × (left ≡ put_at out 0 vs)
 unfolding write_call
-written_are out left vs n e = elim (test (leb (0 + length vs) (length out))) [
+written_are out left vs n e = elim (cases_Bool (leb (0 + length vs) (length out))) [
   | inl h ↦
       let f : ends (done (0 + length vs)) (put_at out 0 vs) ≡ ends (done n) left = rw h at e in
       let g : 0 + length vs ≡ n = done_is (ap (λ (x : Ends ℕ (List ℕ)). x.answer) f) in
@@ -121,7 +122,7 @@ real_calls rows sender sig slots out body frame left count len sent e f g =
 seen_ok : (es : List (ℕ × ℕ)) (rows : List Row) → all row_ok rows ≡ true → all row_ok (delta_rows es rows) ≡ true
 unfolding delta_rows
 seen_ok es [] h = h
-seen_ok es (r ∷ rows) h = elim (test (unseen es r)) [
+seen_ok es (r ∷ rows) h = elim (cases_Bool (unseen es r)) [
   | inl e ↦ rw e (all_cons row_ok r (delta_rows es rows) (all_head row_ok r rows h) (seen_ok es rows (all_tail row_ok r rows h)))
   | inr e ↦ rw e (seen_ok es rows (all_tail row_ok r rows h))
 ]

@@ -1,12 +1,12 @@
 -- The tests of delta_sizes, and its whole call.
 use Prim.Native.Nat.{ℕ, ◌*◌, ◌≤◌, ◌<◌}
 use mathlib.Core.Path.{◌≡◌, sym, ◌∙◌}
-use mathlib.Core.Bool.{Bool, true, false, not}
+use mathlib.Core.Bool.{Bool, true, false}
 use mathlib.Core.List.{List, []}
 use native.Mathlib.Omega.{arith}
 use lib.Dec.{leb}
 use lib.ListN.{length}
-use borrow.Author.Tests.{leb-true, le-leb, lt-leb, not-true, not-false}
+use borrow.Author.Tests.{leb-true, le-leb, lt-leb}
 use Rattle.words.specs.Be.{bes}
 use Rattle.words.specs.Areas.{put_at}
 use Rattle.error.specs.declared.Refusal.{Refusal}
@@ -33,8 +33,8 @@ length_sizes rows per bytes sender sig_len =
     length_each sender sig_len (cut (chunk_ops rows per bytes) rows) ∙ length_cut (chunk_ops rows per bytes) rows
 
 -- the room that has_room found
-pub room_found : (need room : ℕ) (b : Bool) → b ≡ leb need room → not b ≡ false → need ≤ room
-room_found need room b f t = leb-true need room (sym f ∙ not-false b t)
+pub room_found : (need room : ℕ) (b : Bool) → b ≡ leb need room → b ≡ true → need ≤ room
+room_found need room b f t = leb-true need room (sym f ∙ t)
 
 module _ (a : Areas) (peer output left : List ℕ) (per bytes sender sig_len : ℕ) where
   pub sizes_capacity : 1024 < sig_len → left ≡ output → ends (refused OverCapacity) left ≡ sizes_call a peer per bytes sender sig_len output
@@ -59,16 +59,16 @@ module _ (a : Areas) (peer output left : List ℕ) (per bytes sender sig_len : �
       many = length_sizes rows per bytes sender sig_len ∙ rw q
 
       module _ (b : Bool) (f : b ≡ leb (16 * length (chunks most bytes 0 0 rows)) (length output)) where
-        pub sizes_short : not b ≡ true → left ≡ output → ends (refused ShortArea) left ≡ sizes_call a peer per bytes sender sig_len output
+        pub sizes_short : b ≡ false → left ≡ output → ends (refused ShortArea) left ≡ sizes_call a peer per bytes sender sig_len output
         unfolding sizes_call fitting
-        sizes_short t o = rw (goes, many, ← f, not-true b t) (λ i. ends (refused ShortArea) (o i))
+        sizes_short t o = rw (goes, many, ← f, t) (λ i. ends (refused ShortArea) (o i))
 
-        pub sizes_done : (m : ℕ) → not b ≡ false → Puts output (to_come most bytes sender sig_len [] rows) (2 * m) left
+        pub sizes_done : (m : ℕ) → b ≡ true → Puts output (to_come most bytes sender sig_len [] rows) (2 * m) left
             → ends (done m) left ≡ sizes_call a peer per bytes sender sig_len output
         unfolding sizes_call fitting delta_sizes chunk_ops sizes
         sizes_done m t p =
             let z : m ≡ length (chunks most bytes 0 0 rows) = omega (arith, p.count, length_come most bytes sender sig_len rows) in
             let w : m ≡ length (delta_sizes rows per bytes sender sig_len) = z ∙ sym many in
-            let l : leb (16 * length (delta_sizes rows per bytes sender sig_len)) (length output) ≡ true = rw many (sym f ∙ not-false b t) in
+            let l : leb (16 * length (delta_sizes rows per bytes sender sig_len)) (length output) ≡ true = rw many (sym f ∙ t) in
             let o : left ≡ put_at output 0 (bes (numbers (delta_sizes rows per bytes sender sig_len))) = rw (← q) p.output_is in
             rw (goes, l) (λ i. ends (done (w i)) (o i))

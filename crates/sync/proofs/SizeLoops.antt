@@ -11,7 +11,8 @@ use lib.Seq.{take_at, drop_at, length-take-le}
 use borrow.Author.Tests.{le-leb, lt-leb}
 use Rattle.words.specs.Be.{bes}
 use Rattle.words.specs.Areas.{put_at}
-use Rattle.words.proofs.Words.{test, lt_or_le}
+use Rattle.std.proofs.lemmas.Bool.{cases_Bool}
+use Rattle.words.proofs.Words.{lt_or_le}
 use Rattle.codec.specs.Leb128.{shortest}
 use Rattle.codec.specs.Inside.EnvelopeParts.{sized_length, envelope_length}
 use Rattle.codec.proofs.WriterLaws.{length_envelope}
@@ -71,12 +72,12 @@ bytes_one r = rw (append-nil (signed_bytes r))
 -- what a row adds, from the lengths that the code found
 pub row_is : (s : List ℕ) (at : ℕ) (h : Held) (len v bytes : ℕ) → held_of s h ≡ decode_held (slot_at s at) → OpFits s h.op
     → ((src : List ℕ) → OpFits src h.op → len ≡ unsigned_len (row_of src h.op)) → len ≤ 646
-    → v ≡ sized_length h.op.signature_len → v ≤ h.op.signature_len + 10 → bytes ≡ len + v
-    → RowSizes (row_at s at) (len + h.op.signature_len + 16) bytes
+    → v ≡ sized_length h.op.signature.len → v ≤ h.op.signature.len + 10 → bytes ≡ len + v
+    → RowSizes (row_at s at) (len + h.op.signature.len + 16) bytes
 unfolding signed_len row_of held_of
 row_is s at h len v bytes e f g l y m w =
     let r : row_of s h.op ≡ row_at s at = ap (λ (x : HeldRow). x.row) e in
-    let k : length (take h.op.signature_len (drop h.op.signature_at s)) ≡ h.op.signature_len =
+    let k : length (take h.op.signature.len (drop h.op.signature.start s)) ≡ h.op.signature.len =
     length-take-le _ _ (simp length-drop (omega (arith, f.signature_in))) in
     let q = size_is s at h len e f g l in
     record {
@@ -260,7 +261,7 @@ chunks_few most bytes n size [] = elim (lt_or_le 0 n) [
   | inl h ↦ rw (chunks_last most bytes n size (λ e. omega arith)) (omega arith)
   | inr h ↦ rw (chunks_none most bytes n size (omega arith)) (omega arith)
 ]
-chunks_few most bytes n size (r ∷ rows) = elim (test (starts_next most bytes n (size + row_size r))) [
+chunks_few most bytes n size (r ∷ rows) = elim (cases_Bool (starts_next most bytes n (size + row_size r))) [
   | inl e ↦
       let p : 0 < n = next_some most bytes n (size + row_size r) (sym e) in
       rw (chunks_next most bytes n size r rows (sym e)) (omega (arith, chunks_few most bytes 1 (row_size r) rows))
@@ -270,7 +271,7 @@ chunks_few most bytes n size (r ∷ rows) = elim (test (starts_next most bytes n
 lacking_few : (es : List (ℕ × ℕ)) (rows : List Row) → length (delta_rows es rows) ≤ length rows
 unfolding delta_rows
 lacking_few es [] = omega arith
-lacking_few es (r ∷ rows) = elim (test (unseen es r)) [ inl e ↦ rw e (omega (arith, lacking_few es rows)) | inr e ↦ rw e (omega (arith, lacking_few es rows)) ]
+lacking_few es (r ∷ rows) = elim (cases_Bool (unseen es r)) [ inl e ↦ rw e (omega (arith, lacking_few es rows)) | inr e ↦ rw e (omega (arith, lacking_few es rows)) ]
 
 module _ (s : List ℕ) (n : ℕ) (es : List (ℕ × ℕ)) (most bytes room : ℕ) where
   abbrev many : ℕ

@@ -5,7 +5,9 @@ use Rattle.words.specs.Sizes.{word_size}
 use Rattle.words.specs.Be.{bes}
 use Rattle.words.specs.Areas.{put_at}
 use Rattle.error.specs.declared.Refusal.TheVariants.{ShortArea, OverCapacity}
-use Rattle.error.specs.Answer.{Answer, done, refused, unless, Ends, ends}
+use Rattle.std.specs.declared.result.Result.TheVariants.{Ok, Err}
+use Rattle.error.specs.Answer.{Answer, done, refused, unless, ends}
+use Rattle.error.specs.declared.Ends.{Ends}
 use Rattle.codec.specs.Envelopes.{max_signature, envelope}
 use Rattle.row.specs.Rows.{Row}
 use Rattle.replicated_log.specs.Areas.{Areas}
@@ -59,8 +61,8 @@ sizes_answer a peer per_chunk bytes sender sig_len output =
 
 -- the answer is how many chunks there are. 02: "and later bytes stay"; a refusal leaves the output
 abbrev pub table : (output : Area) → Answer (List Figures) → Ends ℕ Area
-table output (done fs) = ends (done (length fs)) (put_at output 0 (bes (numbers fs)))
-table output (refused r) = ends (refused r) output
+table output (Ok fs) = ends (done (length fs)) (put_at output 0 (bes (numbers fs)))
+table output (Err r) = ends (refused r) output
 
 unfoldable pub sizes_call : Areas → (peer : Area) (per_chunk bytes : ℕ) (sender : Author) (sig_len : ℕ) (output : Area) → Ends ℕ Area
 sizes_call a peer per_chunk bytes sender sig_len output = table output (sizes_answer a peer per_chunk bytes sender sig_len output)

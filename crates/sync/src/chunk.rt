@@ -19,10 +19,7 @@ use words::raw::put_word;
 pub(crate) fn at_least_one(n: u64) -> u64
     ensures { result ≡ at_least_one n }
 {
-    if n == 0 {
-        return 1;
-    }
-    n
+    n.max(1)
 }
 
 // The length of n bytes, their length first.
@@ -48,14 +45,11 @@ pub(crate) fn row_sizes(rows: &[u8], at: usize) -> RowSize
     let held = read_slot(rows, at);
     let op = held.op;
     let unsigned = unsigned_len(op) as u64;
-    let signature = op.signature_len as u64;
+    let signature = op.signature.len as u64;
     let sized_signature = sized_len(signature);
     let size = unsigned + signature + 16;
     let bytes = unsigned + sized_signature;
-    RowSize {
-        size: size,
-        bytes: bytes,
-    }
+    RowSize { size, bytes }
 }
 
 // The first of them.
@@ -83,21 +77,19 @@ pub(crate) fn starts_next(n: u64, most: u64, max_bytes: u64, size: u64) -> bool
 pub(crate) fn write_chunks(
     rows: &[u8],
     n: usize,
-    clock: VectorClock,
+    clock: &VectorClock,
     most: u64,
     max_bytes: u64,
     output: &mut [u8],
 ) -> usize
-    requires { Ready rows.now n clock × (8 * n ≤ length output.old) }
-    ensures { Puts output.old (chunks most max_bytes 0 0 (delta_rows (entries clock) (rows_in rows.now n))) result output.new }
+    requires { Ready rows.now n clock.now × (8 * n ≤ length output.old) }
+    ensures { Puts output.old (chunks most max_bytes 0 0 (delta_rows (entries clock.now) (rows_in rows.now n))) result output.new }
 {
-    let mut i: usize = 0;
     let mut k: usize = 0;
     let mut count: u64 = 0;
     let mut size: u64 = 0;
-    while i < n {
+    for i in 0..n {
         let at = 704 * i;
-        i += 1;
         if !is_missing(rows, at, clock) {
             continue;
         }
@@ -123,20 +115,18 @@ pub(crate) fn write_chunks(
 pub(crate) fn count_chunks(
     rows: &[u8],
     n: usize,
-    clock: VectorClock,
+    clock: &VectorClock,
     most: u64,
     max_bytes: u64,
 ) -> usize
-    requires { Ready rows.now n clock }
-    ensures { result ≡ length (chunks most max_bytes 0 0 (delta_rows (entries clock) (rows_in rows.now n))) }
+    requires { Ready rows.now n clock.now }
+    ensures { result ≡ length (chunks most max_bytes 0 0 (delta_rows (entries clock.now) (rows_in rows.now n))) }
 {
-    let mut i: usize = 0;
     let mut k: usize = 0;
     let mut count: u64 = 0;
     let mut size: u64 = 0;
-    while i < n {
+    for i in 0..n {
         let at = 704 * i;
-        i += 1;
         if !is_missing(rows, at, clock) {
             continue;
         }

@@ -7,7 +7,6 @@ mod sizes; // the rows and the bytes of each chunk
 
 ghost use Rattle.std.specs.Prelude.{◌≡◌};
 ghost use Rattle.error.specs.Answer.{ends};
-ghost use Rattle.clock.specs.Vector.{number_answer};
 ghost use Rattle.replicated_log.specs.Areas.{areas};
 ghost use Rattle.sync.specs.Delta.{delta_call, chunk_call};
 ghost use Rattle.sync.specs.Sizes.{sizes_call};
@@ -16,7 +15,6 @@ use crate::chunk::{at_least_one, write_chunks};
 use crate::scan::{count_rows, write_delta};
 use crate::sizes::{has_room, write_sizes};
 use clock::raw::load_clock;
-use clock::vector::NumberAnswer;
 use error::Refusal;
 use stubs::ActorId;
 
@@ -27,20 +25,15 @@ pub fn calculate_delta(
     head: &[u8],
     peer: &[u8],
     output: &mut [u8],
-) -> NumberAnswer
-    ensures { ends (number_answer result) output.new ≡ delta_call (areas rows.now held.now head.now) peer.now output.old }
+) -> Result<u64, Refusal>
+    ensures { ends result output.new ≡ delta_call (areas rows.now held.now head.now) peer.now output.old }
 {
-    let told = count_rows(rows, held, head, peer);
-    match told {
-        NumberAnswer::Refused(r) => NumberAnswer::Refused(r),
-        NumberAnswer::Number(n) => {
-            if output.len() / 8 < n as usize {
-                return NumberAnswer::Refused(Refusal::ShortArea);
-            }
-            let clock = load_clock(peer, 0);
-            NumberAnswer::Number(write_delta(rows, n as usize, clock, output) as u64)
-        }
+    let n = count_rows(rows, held, head, peer)? as usize;
+    if output.len() / 8 < n {
+        return Err(Refusal::ShortArea);
     }
+    let clock = load_clock(peer, 0);
+    Ok(write_delta(rows, n, &clock, output) as u64)
 }
 
 // The row counts of the chunks in which that delta goes out: at most max_per_chunk rows and roughly max_bytes bytes each.
@@ -52,23 +45,16 @@ pub fn chunk_ops(
     max_per_chunk: u64,
     max_bytes: u64,
     output: &mut [u8],
-) -> NumberAnswer
-    ensures { ends (number_answer result) output.new ≡ chunk_call (areas rows.now held.now head.now) peer.now max_per_chunk max_bytes output.old }
+) -> Result<u64, Refusal>
+    ensures { ends result output.new ≡ chunk_call (areas rows.now held.now head.now) peer.now max_per_chunk max_bytes output.old }
 {
-    let told = count_rows(rows, held, head, peer);
-    match told {
-        NumberAnswer::Refused(r) => NumberAnswer::Refused(r),
-        NumberAnswer::Number(n) => {
-            if output.len() / 8 < n as usize {
-                return NumberAnswer::Refused(Refusal::ShortArea);
-            }
-            let clock = load_clock(peer, 0);
-            let most = at_least_one(max_per_chunk);
-            NumberAnswer::Number(
-                write_chunks(rows, n as usize, clock, most, max_bytes, output) as u64,
-            )
-        }
+    let n = count_rows(rows, held, head, peer)? as usize;
+    if output.len() / 8 < n {
+        return Err(Refusal::ShortArea);
     }
+    let clock = load_clock(peer, 0);
+    let most = at_least_one(max_per_chunk);
+    Ok(write_chunks(rows, n, &clock, most, max_bytes, output) as u64)
 }
 
 // The rows of each of those chunks, and the bytes of the envelope in which `sender` sends it as a Delta, signed with
@@ -83,24 +69,18 @@ pub fn delta_sizes(
     sender: ActorId,
     sig_len: u64,
     output: &mut [u8],
-) -> NumberAnswer
-    ensures { ends (number_answer result) output.new ≡ sizes_call (areas rows.now held.now head.now) peer.now max_per_chunk max_bytes sender.0 sig_len output.old }
+) -> Result<u64, Refusal>
+    ensures { ends result output.new ≡ sizes_call (areas rows.now held.now head.now) peer.now max_per_chunk max_bytes sender.0 sig_len output.old }
 {
     if 1024 < sig_len {
-        return NumberAnswer::Refused(Refusal::OverCapacity);
+        return Err(Refusal::OverCapacity);
     }
-    let told = count_rows(rows, held, head, peer);
-    match told {
-        NumberAnswer::Refused(r) => NumberAnswer::Refused(r),
-        NumberAnswer::Number(n) => {
-            let clock = load_clock(peer, 0);
-            let most = at_least_one(max_per_chunk);
-            if !has_room(rows, n as usize, clock, most, max_bytes, output.len()) {
-                return NumberAnswer::Refused(Refusal::ShortArea);
-            }
-            NumberAnswer::Number(write_sizes(
-                rows, n as usize, clock, most, max_bytes, sender, sig_len, output,
-            ) as u64)
-        }
+    let n = count_rows(rows, held, head, peer)? as usize;
+    let clock = load_clock(peer, 0);
+    let most = at_least_one(max_per_chunk);
+    if !has_room(rows, n, &clock, most, max_bytes, output.len()) {
+        return Err(Refusal::ShortArea);
     }
+    let chunks = write_sizes(rows, n, &clock, most, max_bytes, sender, sig_len, output);
+    Ok(chunks as u64)
 }

@@ -39,13 +39,13 @@ fn put_figures(output: &mut [u8], at: usize, rows: u64, bytes: u64)
 pub(crate) fn has_room(
     rows: &[u8],
     n: usize,
-    clock: VectorClock,
+    clock: &VectorClock,
     most: u64,
     max_bytes: u64,
     room: usize,
 ) -> bool
-    requires { Ready rows.now n clock }
-    ensures { result ≡ leb (16 * length (chunks most max_bytes 0 0 (delta_rows (entries clock) (rows_in rows.now n)))) room }
+    requires { Ready rows.now n clock.now }
+    ensures { result ≡ leb (16 * length (chunks most max_bytes 0 0 (delta_rows (entries clock.now) (rows_in rows.now n)))) room }
 {
     if n <= room / 16 {
         return true;
@@ -57,24 +57,22 @@ pub(crate) fn has_room(
 pub(crate) fn write_sizes(
     rows: &[u8],
     n: usize,
-    clock: VectorClock,
+    clock: &VectorClock,
     most: u64,
     max_bytes: u64,
     sender: ActorId,
     sig_len: u64,
     output: &mut [u8],
 ) -> usize
-    requires { Ready rows.now n clock × (sig_len ≤ 1024) × (16 * length (chunks most max_bytes 0 0 (delta_rows (entries clock) (rows_in rows.now n))) ≤ length output.old) }
-    ensures { Puts output.old (to_come most max_bytes sender.0 sig_len [] (delta_rows (entries clock) (rows_in rows.now n))) (2 * result) output.new }
+    requires { Ready rows.now n clock.now × (sig_len ≤ 1024) × (16 * length (chunks most max_bytes 0 0 (delta_rows (entries clock.now) (rows_in rows.now n))) ≤ length output.old) }
+    ensures { Puts output.old (to_come most max_bytes sender.0 sig_len [] (delta_rows (entries clock.now) (rows_in rows.now n))) (2 * result) output.new }
 {
-    let mut i: usize = 0;
     let mut k: usize = 0;
     let mut count: u64 = 0;
     let mut size: u64 = 0;
     let mut bytes: u64 = 0;
-    while i < n {
+    for i in 0..n {
         let at = 704 * i;
-        i += 1;
         if !is_missing(rows, at, clock) {
             continue;
         }

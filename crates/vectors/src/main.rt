@@ -2,7 +2,6 @@
 // One line for each case, then how many came out as published.
 #![tactic(auto)]
 
-use codec::{NumberRead, Written};
 use std::io;
 
 // How many cases there are.
@@ -17,15 +16,9 @@ fn told(rt: &impl Print, ok: bool, text: &str) -> io::Result<bool> {
 
 // Whether v is written to `out` as `bytes`, no more and no less.
 fn written_to(out: &mut [u8], v: u64, bytes: &[u8]) -> bool {
-    let end = codec::put_varint(out, 0, v);
-    match end {
-        Written::Refused(_) => false,
-        Written::Next(n) => {
-            if n > out.len() {
-                return false;
-            }
-            &out[..n] == bytes
-        }
+    match codec::put_varint(out, 0, v) {
+        Ok(n) => n <= out.len() && &out[..n] == bytes,
+        Err(_) => false,
     }
 }
 
@@ -36,11 +29,7 @@ fn written_as(v: u64, bytes: &[u8]) -> bool {
 
 // Whether `bytes` read as v, all of them.
 fn read_as(bytes: &[u8], v: u64) -> bool {
-    let read = codec::get_varint(bytes, 0);
-    match read {
-        NumberRead::Refused(_) => false,
-        NumberRead::Value { value, next } => value == v && next == bytes.len(),
-    }
+    codec::get_varint(bytes, 0).is_ok_and(|read| read == (v, bytes.len()))
 }
 
 // A case in both directions.
@@ -54,10 +43,8 @@ fn both(rt: &impl Print, v: u64, bytes: &[u8], text: &str) -> io::Result<bool> {
 // A case that is refused with this number.
 fn refused(rt: &impl Print, bytes: &[u8], number: u64, text: &str) -> io::Result<bool> {
     let read = codec::get_varint(bytes, 0);
-    match read {
-        NumberRead::Refused(r) => told(rt, error::number(r) == number, text),
-        NumberRead::Value { value: _, next: _ } => told(rt, false, text),
-    }
+    let as_published = read.is_err_and(|r| error::number(r) == number);
+    told(rt, as_published, text)
 }
 
 // Document 01 has 300 and 2^64 - 1; the first five and 624485 are DWARF's.

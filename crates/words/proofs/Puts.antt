@@ -7,7 +7,9 @@ use native.Mathlib.Nat.{add-zero}
 use native.Mathlib.Numerals.{add-one}
 use native.Mathlib.Omega.{arith}
 use lib.ListN.{length, take, drop, get_or, set, replicate, length-append, length-take, length-drop, length-replicate, take-append-drop, replicate-append-replicate}
-use lib.Seq.{take-suc, take-length, take_at, drop_at, drop-drop, length-take-le, paste, paste-suc, get_or-set_same, get_or-set_other}
+use lib.Seq.{take-suc, take_at, drop_at, drop-drop, length-take-le, get_or-set_same, get_or-set_other}
+use borrow.Rule.Slice.PartMut.{put_mid}
+use Rattle.std.specs.Int.{w64, to_be_bytes}
 use Rattle.words.specs.Be.{be64, bes}
 use Rattle.words.specs.Areas.{pad, put_at}
 use Rattle.words.proofs.Words.{lt_or_le}
@@ -15,6 +17,16 @@ use Rattle.words.proofs.Words.{lt_or_le}
 pub put_nil : (s : List ℕ) (a : ℕ) → s ≡ put_at s a []
 unfolding put_at
 put_nil s a = sym (rw (add-zero a, append-nil (take a s)) (take-append-drop a s))
+
+-- a part of an area that another list took the place of
+pub put_part : (s x y : List ℕ) (a n : ℕ) → x ≡ y → n ≡ length y → put_mid a n s x ≡ put_at s a y
+unfolding put_at
+put_part s x y a n e h = rw (e, h, drop-drop (length y) a s) (sym (append_assoc (take a s) y (drop (a + length y) s)))
+
+-- a word's bytes
+pub word_bytes : (v : ℕ) → to_be_bytes w64 v ≡ be64 v
+unfolding be64
+word_bytes v = refl
 
 pub length_put : (s x : List ℕ) (a : ℕ) → a + length x ≤ length s → length (put_at s a x) ≡ length s
 unfolding put_at
@@ -56,9 +68,6 @@ words_turn s₀ s t ws at i p q h k =
     rw (add-one, take-suc ws i 0 h, bes_append (take i ws) (get_or ws i 0 ∷ []), bes_one) in
     q ∙ rw (p, e) (put_put s₀ (bes (take i ws)) (be64 (get_or ws i 0)) at (at + 8 * i) l (omega (arith, length_be (get_or ws i 0))))
 
-pub words_done : (s₀ s ws : List ℕ) (at i : ℕ) → s ≡ put_at s₀ at (bes (take i ws)) → i ≡ length ws → s ≡ put_at s₀ at (bes ws)
-words_done s₀ s ws at i p h = p ∙ rw (h, take-length ws)
-
 -- an array that is filled from the front
 pub fill_turn : (f : ℕ → ℕ) (l : List ℕ) (i v : ℕ) → i < length l → v ≡ f i → ((k : ℕ) → k < i → get_or l k 0 ≡ f k) → (k : ℕ) → k < i + 1 → get_or (set l i v) k 0 ≡ f k
 fill_turn f l i v h e p k m =
@@ -68,14 +77,6 @@ fill_turn f l i v h e p k m =
           let z : k ≡ i = omega arith in
           rw z (get_or-set_same l i v 0 h ∙ e)
     ]
-
--- copies
-pub copy_turn : (d₀ d s : List ℕ) (at i : ℕ) → d ≡ paste d₀ at s i → at + length s ≤ length d₀ → i < length s → set d (at + i) (get_or s i 0) ≡ paste d₀ at s (i + 1)
-copy_turn d₀ d s at i e h k = rw (e, add-one) (paste-suc d₀ at s i 0 (omega arith) k)
-
-pub copy_done : (d₀ d s : List ℕ) (at i : ℕ) → d ≡ paste d₀ at s i → i ≡ length s → d ≡ put_at d₀ at s
-unfolding put_at
-copy_done d₀ d s at i e h = e ∙ rw (h, take-length s)
 
 -- a field that is put where zeros stand
 pub put_pad : (s out vs : List ℕ) (a size rest : ℕ) → s ≡ out ++ replicate (size + rest) 0 → length out ≡ a → length vs ≤ size

@@ -1,44 +1,24 @@
 -- Laws of words: what is put is what is got, and back; a padded field.
-use Prim.Native.Nat.{ℕ, zero, suc, ◌+◌, ◌-◌, ◌*◌, ◌/◌, ◌%◌, ◌≤◌, ◌<◌}
+use Prim.Native.Nat.{ℕ, zero, suc, ◌+◌, ◌-◌, ◌*◌, ◌≤◌, ◌<◌}
 use mathlib.Core.Path.{◌≡◌, refl, sym, ◌∙◌, ap}
 use mathlib.Core.List.{List, [], ◌∷◌, ◌++◌}
 use native.Mathlib.Omega.{arith}
-use lib.ListN.{length, take, drop, get_or, set, replicate, length-append, length-take, length-drop, length-replicate, get_or-replicate, get_or-eq_default}
-use lib.Seq.{drop-cons, take-add, drop-drop, length-take-le, sets-eq, get_or-take, get_or-drop, ext_get_or}
+use lib.ListN.{length, take, drop, get_or, replicate, length-append, length-take, length-drop, length-replicate, get_or-replicate, get_or-eq_default}
+use lib.Seq.{drop-cons, take-add, drop-drop, length-take-le, get_or-take, get_or-drop, ext_get_or}
 use mathlib.Core.Logic.{◌⊎◌, inl, inr}
-use mathlib.Core.Bool.{Bool, true, false, not}
+use mathlib.Core.Bool.{Bool, true, false}
 use lib.Dec.{ltb}
 use borrow.Author.Tests.{ltb-true, ltb-false}
+use Rattle.std.specs.Prelude.{◌↔◌, IsTrue, EachIndex}
+use Rattle.std.proofs.lemmas.Bool.{false≢true, cases_Bool}
+pub use Rattle.std.proofs.lemmas.Bool.{cases_Bool as test}
+use Rattle.std.proofs.lemmas.Nat.{be_bytes_8, from_be_bytes-to_be_bytes_8}
+use Rattle.std.specs.Int.{w64, from_be_bytes}
 use Rattle.words.specs.Be.{AllBytes, be64, get64, bes, words_at}
 use Rattle.words.specs.Areas.{pad, Zero}
 use Rattle.words.specs.Choice.{Tells}
 use Rattle.words.specs.Choice.Tells.{is_true, is_false}
-use Rattle.words.specs.Inside.Moves.{ZeroIn, get32}
-
--- a word is its two halves
-pub halves : (s : List ℕ) (at a b : ℕ) → a ≡ get32 s at → b ≡ get32 s (at + 4) → a * 4294967296 + b ≡ get64 s at
-unfolding get32 get64
-halves s at a b e f =
-    let e5 : get_or s (at + 4 + 1) 0 ≡ get_or s (at + 5) 0 = ap (λ (i : ℕ). get_or s i 0) (omega arith) in
-    let e6 : get_or s (at + 4 + 2) 0 ≡ get_or s (at + 6) 0 = ap (λ (i : ℕ). get_or s i 0) (omega arith) in
-    let e7 : get_or s (at + 4 + 3) 0 ≡ get_or s (at + 7) 0 = ap (λ (i : ℕ). get_or s i 0) (omega arith) in
-    omega (arith, e5, e6, e7)
-
-digits : (a b c d e f g h : ℕ) → a < 256 → b < 256 → c < 256 → d < 256 → e < 256 → f < 256 → g < 256 → h < 256
-    → be64 (a * 72057594037927936 + b * 281474976710656 + c * 1099511627776 + d * 4294967296 + e * 16777216 + f * 65536 + g * 256 + h)
-    ≡ a ∷ b ∷ c ∷ d ∷ e ∷ f ∷ g ∷ h ∷ []
-unfolding be64
-digits a b c d e f g h ha hb hc hd he hf hg hh =
-    let n : ℕ = a * 72057594037927936 + b * 281474976710656 + c * 1099511627776 + d * 4294967296 + e * 16777216 + f * 65536 + g * 256 + h in
-    let e0 : n / 72057594037927936 % 256 ≡ a = omega arith in
-    let e1 : n / 281474976710656 % 256 ≡ b = omega arith in
-    let e2 : n / 1099511627776 % 256 ≡ c = omega arith in
-    let e3 : n / 4294967296 % 256 ≡ d = omega arith in
-    let e4 : n / 16777216 % 256 ≡ e = omega arith in
-    let e5 : n / 65536 % 256 ≡ f = omega arith in
-    let e6 : n / 256 % 256 ≡ g = omega arith in
-    let e7 : n % 256 ≡ h = omega arith in
-    cc
+use Rattle.words.specs.Inside.Moves.{ZeroIn}
 
 eight : (s : List ℕ) (at : ℕ) → at + 8 ≤ length s
     → take 8 (drop at s) ≡ get_or s at 0 ∷ get_or s (at + 1) 0 ∷ get_or s (at + 2) 0 ∷ get_or s (at + 3) 0 ∷ get_or s (at + 4) 0 ∷ get_or s (at + 5) 0 ∷ get_or s (at + 6) 0 ∷ get_or s (at + 7) 0 ∷ []
@@ -68,11 +48,31 @@ eight s at h =
       drop-cons s (suc (suc (suc (suc (suc (suc (suc at))))))) 0 (omega arith),
     )
 
+read : (s : List ℕ) (at : ℕ) → at + 8 ≤ length s → from_be_bytes w64 (take 8 (drop at s)) ≡ get64 s at
+unfolding get64
+read s at h = rw (eight s at h) refl
+
+-- eight bytes that are read are a word
+pub word_read : (s b : List ℕ) (at : ℕ) → at + 8 ≤ length s → b ≡ take (at + 8 - at) (drop at s) → from_be_bytes w64 b ≡ get64 s at
+word_read s b at h e =
+    let n : at + 8 - at ≡ 8 = omega arith in
+    rw (e, n) (read s at h)
+
+pub lt_or_le : (m n : ℕ) → (m < n) ⊎ (n ≤ m)
+lt_or_le m n = elim (cases_Bool (ltb m n)) [ inl h ↦ inl (ltb-true m n h) | inr h ↦ inr (ltb-false m n h) ]
+
+pub bytes_part : (s : List ℕ) (a n : ℕ) → AllBytes s → AllBytes (take n (drop a s))
+bytes_part s a n b i =
+    elim (lt_or_le i n) [
+      | inr h ↦ rw (get_or-eq_default (take n (drop a s)) 0 {n = i} (simp length-take (omega arith))) (omega arith)
+      | inl h ↦ rw (get_or-take n (drop a s) i 0 h, get_or-drop a s i 0) (b (a + i))
+    ]
+
 -- what a word's bytes are, is what stands there
 pub word_back : (s : List ℕ) (at : ℕ) → AllBytes s → at + 8 ≤ length s → be64 (get64 s at) ≡ take 8 (drop at s)
-unfolding get64
+unfolding be64
 word_back s at b h =
-    digits _ _ _ _ _ _ _ _ (b at) (b (at + 1)) (b (at + 2)) (b (at + 3)) (b (at + 4)) (b (at + 5)) (b (at + 6)) (b (at + 7)) ∙ sym (eight s at h)
+    be_bytes_8 (take 8 (drop at s)) (get64 s at) (length-take-le 8 (drop at s) (simp length-drop (omega arith))) (bytes_part s at 8 b) (sym (read s at h))
 
 pub words_back : (s : List ℕ) (at n : ℕ) → AllBytes s → at + 8 * n ≤ length s → bes (words_at s at n) ≡ take (8 * n) (drop at s)
 unfolding bes words_at
@@ -96,32 +96,10 @@ pub word_fits : (s : List ℕ) (at : ℕ) → AllBytes s → get64 s at < 184467
 unfolding get64
 word_fits s at b = omega (arith, b at, b (at + 1), b (at + 2), b (at + 3), b (at + 4), b (at + 5), b (at + 6), b (at + 7))
 
-pub test : (b : Bool) → (b ≡ true) ⊎ (b ≡ false)
-test true = inl refl
-test false = inr refl
-
-pub lt_or_le : (m n : ℕ) → (m < n) ⊎ (n ≤ m)
-lt_or_le m n = elim (test (ltb m n)) [ inl h ↦ inl (ltb-true m n h) | inr h ↦ inr (ltb-false m n h) ]
-
-pub bytes_part : (s : List ℕ) (a n : ℕ) → AllBytes s → AllBytes (take n (drop a s))
-bytes_part s a n b i =
-    elim (lt_or_le i n) [
-      | inr h ↦ rw (get_or-eq_default (take n (drop a s)) 0 {n = i} (simp length-take (omega arith))) (omega arith)
-      | inl h ↦ rw (get_or-take n (drop a s) i 0 h, get_or-drop a s i 0) (b (a + i))
-    ]
-
--- eight digits, with no division
-chain : (v a b c d e f g p q r s t u w x : ℕ) → v ≡ a * 256 + p → a ≡ b * 256 + q → b ≡ c * 256 + r → c ≡ d * 256 + s → d ≡ e * 256 + t → e ≡ f * 256 + u → f ≡ g * 256 + w → g ≡ x
-    → x * 72057594037927936 + w * 281474976710656 + u * 1099511627776 + t * 4294967296 + s * 16777216 + r * 65536 + q * 256 + p ≡ v
-chain v a b c d e f g p q r s t u w x h1 h2 h3 h4 h5 h6 h7 h8 = omega arith
-
 -- a word that is written is read
 pub word_there : (v : ℕ) (q : List ℕ) → v < 18446744073709551616 → get64 (be64 v ++ q) 0 ≡ v
 unfolding be64 get64
-word_there v q h =
-    chain v (v / 256) (v / 65536) (v / 16777216) (v / 4294967296) (v / 1099511627776) (v / 281474976710656) (v / 72057594037927936)
-    (v % 256) (v / 256 % 256) (v / 65536 % 256) (v / 16777216 % 256) (v / 4294967296 % 256) (v / 1099511627776 % 256) (v / 281474976710656 % 256) (v / 72057594037927936 % 256)
-    (omega arith) (omega arith) (omega arith) (omega arith) (omega arith) (omega arith) (omega arith) (omega arith)
+word_there v q h = from_be_bytes-to_be_bytes_8 v h
 
 pub word_drop : (s : List ℕ) (a b : ℕ) → get64 (drop a s) b ≡ get64 s (a + b)
 unfolding get64
@@ -179,14 +157,19 @@ zero_in s from to h z k a l = ap (λ (m : List ℕ). get_or m k 0) z ∙ get_or-
 in_zero : (s : List ℕ) → ZeroIn s 0 (length s) → Zero s
 in_zero s z = zero_all s (length s) (omega arith) (λ k l. z k (omega arith) l)
 
--- a test of the elements from i up to j: passed, and not
-pub in_more : (s : List ℕ) (from i j : ℕ) (b : Bool) → Tells (ZeroIn s i j) b → not b ≡ false → ZeroIn s from i → ZeroIn s from j
-in_more s from i j true (is_true z) e y = in_join s from i j y z
-in_more s from i j false (is_false n) e y = absurd (let z : ◌≡◌ {A = ℕ} 0 1 = cc in omega arith)
+-- a test of each element by itself
+pub each_tells : (s : List ℕ) (b : Bool) → IsTrue b ↔ EachIndex s (λ k. get_or s k 0 ≡ 0) → Tells (Zero s) b
+each_tells s true h = is_true (zero_all s (length s) (omega arith) (h.0 refl))
+each_tells s false h = is_false (λ z. false≢true (h.1 (λ k l. zero_in s k (k + 1) (omega arith) z k (omega arith) (omega arith))))
 
-pub zero_not_in : (s : List ℕ) (i j : ℕ) (b : Bool) → j ≤ length s → Tells (ZeroIn s i j) b → not b ≡ true → Zero s → ⊥
+-- a test of the elements from i up to j: passed, and not
+pub in_more : (s : List ℕ) (from i j : ℕ) (b : Bool) → Tells (ZeroIn s i j) b → b ≡ true → ZeroIn s from i → ZeroIn s from j
+in_more s from i j true (is_true z) e y = in_join s from i j y z
+in_more s from i j false (is_false n) e y = absurd (cc)
+
+pub zero_not_in : (s : List ℕ) (i j : ℕ) (b : Bool) → j ≤ length s → Tells (ZeroIn s i j) b → b ≡ false → Zero s → ⊥
 zero_not_in s i j false h (is_false n) e z = n (zero_in s i j h z)
-zero_not_in s i j true h (is_true y) e z = absurd (let w : ◌≡◌ {A = ℕ} 0 1 = cc in omega arith)
+zero_not_in s i j true h (is_true y) e z = cc
 
 -- what is zero up to i: the last n elements tell, if they begin no later
 pub last_tells : (s : List ℕ) (i n : ℕ) (b : Bool) → n ≤ length s → length s - n ≤ i → ZeroIn s 0 i
@@ -194,17 +177,3 @@ pub last_tells : (s : List ℕ) (i n : ℕ) (b : Bool) → n ≤ length s → le
 last_tells s i n true h l y (is_true z) =
     is_true (in_zero s (in_join s 0 i (length s) y (λ k a m. z k (omega arith) (omega arith))))
 last_tells s i n false h l y (is_false r) = is_false (λ z. r (zero_in s (length s - n) (length s - n + n) (omega arith) z))
-
--- eight stores in a row
-pub put8 : (l : List ℕ) (i a b c d e f g h : ℕ) → i + 8 ≤ length l
-    → set (set (set (set (set (set (set (set l i a) (i + 1) b) (i + 2) c) (i + 3) d) (i + 4) e) (i + 5) f) (i + 6) g) (i + 7) h
-    ≡ take i l ++ (a ∷ b ∷ c ∷ d ∷ e ∷ f ∷ g ∷ h ∷ []) ++ drop (i + 8) l
-put8 l i a b c d e f g h k =
-    let e1 : i + 1 ≡ suc i = omega arith in
-    let e2 : i + 2 ≡ suc (suc i) = omega arith in
-    let e3 : i + 3 ≡ suc (suc (suc i)) = omega arith in
-    let e4 : i + 4 ≡ suc (suc (suc (suc i))) = omega arith in
-    let e5 : i + 5 ≡ suc (suc (suc (suc (suc i)))) = omega arith in
-    let e6 : i + 6 ≡ suc (suc (suc (suc (suc (suc i))))) = omega arith in
-    let e7 : i + 7 ≡ suc (suc (suc (suc (suc (suc (suc i)))))) = omega arith in
-    rw (e1, e2, e3, e4, e5, e6, e7) (sets-eq (a ∷ b ∷ c ∷ d ∷ e ∷ f ∷ g ∷ h ∷ []) l i k)

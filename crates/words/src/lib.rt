@@ -13,11 +13,7 @@ use crate::raw::blocks_are_zero;
 pub fn zero(s: &mut [u8])
     ensures { s.new ≡ replicate (length s.old) 0 }
 {
-    let mut i = 0;
-    while i < s.len() {
-        s[i] = 0;
-        i += 1;
-    }
+    s.fill(0);
 }
 
 // Whether every byte is zero: 128 at a time, 8 where there are fewer, or each by itself.
@@ -37,12 +33,5 @@ pub fn is_zero(s: &[u8]) -> bool
 fn bytes_are_zero(s: &[u8]) -> bool
     ensures { Tells (Zero s.now) result }
 {
-    let mut i: usize = 0;
-    while i < s.len() {
-        if s[i] != 0 {
-            return false;
-        }
-        i += 1;
-    }
-    true
+    s.iter().all(|x| *x == 0)
 }

@@ -3,15 +3,16 @@ use Prim.Native.Nat.{ℕ, zero, suc, ◌+◌, ◌-◌, ◌*◌, ◌≤◌, ◌<�
 use mathlib.Core.Path.{◌≡◌, refl, sym, ◌∙◌, ap}
 use mathlib.Core.Bool.{Bool, true, false}
 use mathlib.Core.Logic.{inl}
+use Rattle.std.proofs.Common.{Result}
 use mathlib.Core.List.{List, [], ◌∷◌, ◌++◌, append_assoc, append-nil}
 use native.Mathlib.Omega.{arith}
 use lib.Dec.{leb}
 use lib.ListN.{length, get_or}
 use borrow.Author.Tests.{le-leb, lt-leb}
 use Rattle.words.specs.Be.{get64, column}
-use Rattle.stubs.specs.declared.ActorId.{ActorId}
-use Rattle.error.specs.declared.Refusal.TheVariants as refusal
-use Rattle.error.specs.Answer.{and_then, Got, got, bad, after}
+use Rattle.error.specs.declared.Refusal.{Refusal}
+use Rattle.std.specs.declared.result.Result.TheVariants.{Ok, Err}
+use Rattle.error.specs.Answer.{and_then, Got, got, after}
 use Rattle.row.specs.Slots.{slot_at, slot_ok, slots_at, decode_held}
 use Rattle.row.specs.Reading.{BatchRow, read_row}
 use Rattle.row.proofs.Operations.{word_part}
@@ -25,9 +26,7 @@ use Rattle.working.specs.Inside.Keys.{Keyed}
 use Rattle.working.specs.Inside.Entry.{admitted, Admits}
 use Rattle.working.specs.Inside.Entry.Admits.{is_duplicate, is_conflict, is_entered}
 use Rattle.working.specs.declared.Admitting.{Admitting}
-use Rattle.working.specs.declared.Admitting.TheVariants.{Entered, Refused}
-use Rattle.working.specs.declared.entering.Admit.{Admit}
-use Rattle.working.specs.declared.entering.Admit.TheVariants as answer
+use Rattle.working.specs.declared.entering.Admit.TheVariants.{Duplicate, Entered}
 use Rattle.working.proofs.ScratchColumns.{cells_more, cells_keep, Refs, none, of_refs, refs_snoc}
 use Rattle.working.proofs.ReferenceRows.{after_read, work_held, held_ok_lem}
 use Rattle.working.proofs.DrainLoop.{rows_snoc}
@@ -36,13 +35,13 @@ use Rattle.merging.specs.Inside.RowStarts.{StartsAt, start_of, past_row}
 
 -- ---- rows one behind the other
 abbrev pub rows_in : Got (List BatchRow) → List BatchRow
-rows_in (got bs n) = bs
-rows_in (bad r) = []
+rows_in (Ok (bs, n)) = bs
+rows_in (Err r) = []
 
 and_rest : (b : BatchRow) (g : Got (List BatchRow)) → is_read (after g (λ bs n. got (b ∷ bs) n)) ≡ true
     → (is_read g ≡ true) × (rows_in (after g (λ bs n. got (b ∷ bs) n)) ≡ b ∷ rows_in g)
-and_rest b (got bs n) t = (refl, refl)
-and_rest b (bad r) t = absurd (let z : ◌≡◌ {A = ℕ} 0 1 = cc in omega arith)
+and_rest b (Ok (bs, n)) t = (refl, refl)
+and_rest b (Err r) t = absurd (let z : ◌≡◌ {A = ℕ} 0 1 = cc in omega arith)
 
 module _ (s : List ℕ) (m at : ℕ) (t : is_read (read_rows s at (suc m)) ≡ true) where
   first_read : (b : BatchRow) × (n : ℕ) × (read_row s at ≡ got b n)
@@ -110,7 +109,7 @@ module _ {c : List (ℕ × ℕ)} {held batch s₀ ks₀ : List ℕ} {n first row
   in_all bs end e = rw e
 
   entering_end : rows ≤ i → (time : ℕ) (bs : List BatchRow) (end : ℕ) → read_rows batch first rows ≡ got bs end
-      → AdmitsAll c held batch time s₀ s n bs (Entered left duplicates)
+      → AdmitsAll c held batch time s₀ s n bs (Ok (record { working = left; duplicates = duplicates }))
   unfolding admit_all read_rows
   entering_end h time bs end e =
       let z : rows - i ≡ 0 = omega (arith, g.turn) in
@@ -153,7 +152,7 @@ module _ {c : List (ℕ × ℕ)} {held batch s₀ ks₀ : List ℕ} {n first row
           let r : rows_in (read_rows batch at (rows - i)) ≡ b ∷ rows_in (read_rows batch (start_of batch first (i + 1)) (rows - (i + 1))) = rw one rest.1 in
           rw r at (g.whole time)
 
-    entering_duplicate : (t us : List ℕ) → length us ≡ length ks → Admits c held batch s t us left at answer.Duplicate
+    entering_duplicate : (t us : List ℕ) → length us ≡ length ks → Admits c held batch s t us left at (Ok Duplicate)
         → Entering c held batch s₀ ks₀ n first rows t us left (duplicates + 1) (i + 1)
     entering_duplicate t us lk (is_duplicate b next e f q y) = record {
       same = ap length q ∙ g.same;
@@ -170,7 +169,7 @@ module _ {c : List (ℕ × ℕ)} {held batch s₀ ks₀ : List ℕ} {n first row
       whole = λ time. rw q (rw (f time duplicates) at (unrolled b next e time));
     }
 
-    entering_entered : (t us : List ℕ) → length t ≡ length s → length us ≡ length ks → Admits c held batch s t us left at answer.Entered
+    entering_entered : (t us : List ℕ) → length t ≡ length s → length us ≡ length ks → Admits c held batch s t us left at (Ok Entered)
         → Entering c held batch s₀ ks₀ n first rows t us (left + 1) duplicates (i + 1)
     entering_entered t us len lk (is_entered b next e f r y) = record {
       same = len ∙ g.same;
@@ -187,10 +186,10 @@ module _ {c : List (ℕ × ℕ)} {held batch s₀ ks₀ : List ℕ} {n first row
       whole = λ time. rw (f time duplicates) at (unrolled b next e time);
     }
 
-    entering_conflict : (t us : List ℕ) (actor : ActorId) (seq : ℕ) → Admits c held batch s t us left at (answer.Conflict actor seq)
+    entering_refused : (t us : List ℕ) (r : Refusal) → Admits c held batch s t us left at (Err r)
         → (time : ℕ) (bs : List BatchRow) (end : ℕ) → read_rows batch first rows ≡ got bs end
-        → AdmitsAll c held batch time s₀ t n bs (Refused (refusal.Conflict actor seq))
-    entering_conflict t us actor seq (is_conflict b next e f) time bs end q = record {
+        → AdmitsAll c held batch time s₀ t n bs (Err r)
+    entering_refused t us r (is_conflict b next e f) time bs end q = record {
       answer = rw (f time duplicates) at (unrolled b next e time) ∙ ap (λ (l : List BatchRow). admit_all c time (admitted held batch time (column s₀ 0 n) 0) l) (in_all bs end q);
       refs = omega arith;
     }
@@ -207,7 +206,7 @@ enters_start c held batch starts s ks n rows w f g h x y = record { from = λ fi
 module _ {c : List (ℕ × ℕ)} {held batch starts s₀ ks₀ : List ℕ} {n rows : ℕ} {s ks : List ℕ} {left duplicates i : ℕ}
     (g : Enters c held batch starts s₀ ks₀ n rows s ks left duplicates i) where
   pub enters_end : rows ≤ i → (time first : ℕ) (bs : List BatchRow) (end : ℕ) → StartsAt batch starts first rows → read_rows batch first rows ≡ got bs end
-      → AdmitsAll c held batch time s₀ s n bs (Entered left duplicates)
+      → AdmitsAll c held batch time s₀ s n bs (Ok (record { working = left; duplicates = duplicates }))
   enters_end h time first bs end st e =
       let rd : is_read (read_rows batch first rows) ≡ true = rw e in
       entering_end (g.from first st rd) rd h time bs end e
@@ -220,26 +219,23 @@ module _ {c : List (ℕ × ℕ)} {held batch starts s₀ ks₀ : List ℕ} {n ro
         → Working held batch s left × (is_read (read_row batch (get_or starts i 0)) ≡ true) × (16 * left + 16 ≤ length s) × (5 * left + 5 ≤ length ks)
     begun_needs w = rw (w.starts_are i h) (needs_one (begun w) w.read h)
 
-    pub enters_duplicate : (t us : List ℕ) → length us ≡ length ks → Admits c held batch s t us left (get_or starts i 0) answer.Duplicate
+    pub enters_duplicate : (t us : List ℕ) → length us ≡ length ks → Admits c held batch s t us left (get_or starts i 0) (Ok Duplicate)
         → Enters c held batch starts s₀ ks₀ n rows t us left (duplicates + 1) (i + 1)
     enters_duplicate t us lk a = record { from = λ first st rd. entering_duplicate (g.from first st rd) rd h t us lk (rw (st i h) at a) }
 
-    pub enters_entered : (t us : List ℕ) → length t ≡ length s → length us ≡ length ks → Admits c held batch s t us left (get_or starts i 0) answer.Entered
+    pub enters_entered : (t us : List ℕ) → length t ≡ length s → length us ≡ length ks → Admits c held batch s t us left (get_or starts i 0) (Ok Entered)
         → Enters c held batch starts s₀ ks₀ n rows t us (left + 1) duplicates (i + 1)
     enters_entered t us len lk a = record { from = λ first st rd. entering_entered (g.from first st rd) rd h t us len lk (rw (st i h) at a) }
 
-    pub enters_conflict : (t us : List ℕ) (actor : ActorId) (seq : ℕ) → Admits c held batch s t us left (get_or starts i 0) (answer.Conflict actor seq)
+    pub enters_refused : (t us : List ℕ) (r : Refusal) → Admits c held batch s t us left (get_or starts i 0) (Err r)
         → (time first : ℕ) (bs : List BatchRow) (end : ℕ) → StartsAt batch starts first rows → read_rows batch first rows ≡ got bs end
-        → AdmitsAll c held batch time s₀ t n bs (Refused (refusal.Conflict actor seq))
-    enters_conflict t us actor seq a time first bs end st e =
+        → AdmitsAll c held batch time s₀ t n bs (Err r)
+    enters_refused t us r a time first bs end st e =
         let rd : is_read (read_rows batch first rows) ≡ true = rw e in
-        entering_conflict (g.from first st rd) rd h t us actor seq (rw (st i h) at a) time bs end e
-
-pub answered : {c : List (ℕ × ℕ)} {held batch s t us : List ℕ} {n at : ℕ} {a b : Admit} → a ≡ b → Admits c held batch s t us n at a → Admits c held batch s t us n at b
-answered e v = rw e at v
+        entering_refused (g.from first st rd) rd h t us r (rw (st i h) at a) time bs end e
 
 -- the clock that admission goes by, told otherwise
-pub admits_by : {c es : List (ℕ × ℕ)} {held batch s t : List ℕ} {time n : ℕ} {bs : List BatchRow} {r : Admitting} → c ≡ es
+pub admits_by : {c es : List (ℕ × ℕ)} {held batch s t : List ℕ} {time n : ℕ} {bs : List BatchRow} {r : Result Admitting Refusal} → c ≡ es
     → AdmitsAll c held batch time s t n bs r → AdmitsAll es held batch time s t n bs r
 admits_by e d = rw e at d
 
@@ -264,10 +260,10 @@ slots_next held count i h =
     let f : 704 * (i + 1) ≡ 704 * i + 704 = omega arith in
     rw (e, f)
 
-length_slots : (held : List ℕ) (at n : ℕ) → length (slots_at held at n) ≡ n
+length_slots : (held : List ℕ) (from n : ℕ) → length (slots_at held from n) ≡ n
 unfolding slots_at
-length_slots held at zero = refl
-length_slots held at (suc n) = ap suc (length_slots held (at + 704) n)
+length_slots held from zero = refl
+length_slots held from (suc n) = ap suc (length_slots held (from + 704) n)
 
 module _ {held s : List ℕ} {count cutoff n i : ℕ} (g : Lasting held s count cutoff n i) where
   pub lasting_end : count ≤ i → 16 * count ≤ length s → (batch : List ℕ) (time : ℕ) → Unexpired held batch time cutoff (slots_at held 0 count) s n

@@ -3,13 +3,17 @@ use Prim.Native.Nat.{ℕ, zero, suc, ◌+◌, ◌-◌, ◌*◌, ◌≤◌, ◌<�
 use mathlib.Core.Path.{◌≡◌, refl, sym, ◌∙◌, ap}
 use mathlib.Core.Bool.{true, false}
 use mathlib.Core.Logic.{inl, inr}
-use mathlib.Core.List.{List, [], ◌∷◌}
+use mathlib.Core.List.{List, [], ◌∷◌, ◌++◌, append_assoc}
 use native.Mathlib.Numerals.{add-one}
 use native.Mathlib.Omega.{arith}
 use lib.Dec.{ltb, eqb}
-use lib.ListN.{length, take, get_or, set, length-set}
-use lib.Seq.{get_or-take, length-take-le, take_at, ext_get_or, take-set-lt}
-use borrow.Author.Tests.{eq-eqb, ne_eqb, lt-ltb, le-ltb, eqb-true, ltb-true}
+use lib.ListN.{length, take, drop, get_or, set, length-set, length-take}
+use lib.Seq.{get_or-take, length-take-le, take_at, ext_get_or, take-set-lt, take-suc-set, set-append_left}
+use Rattle.std.proofs.Common.{Ok, Err, nat_cmp}
+use Rattle.std.specs.List.{copy_within}
+use Rattle.std.specs.List.Sorted.{IsBinarySearchResult}
+use Rattle.std.proofs.lemmas.List.Sorted.{searched}
+use borrow.Author.Tests.{eq-eqb, ne_eqb, lt-ltb, le-ltb}
 use Rattle.words.specs.Be.{get64, column}
 use Rattle.clock.specs.Area.{clock_at}
 use Rattle.clock.specs.Entries.{get, put}
@@ -18,12 +22,10 @@ use Rattle.clock.specs.Vector.{pairs, entries, sound}
 use Rattle.clock.proofs.ClockEntries.{sound_few, sound_rising}
 use Rattle.clock.proofs.EntryLaws.{absent}
 use Rattle.clock.proofs.RisingAuthors.{Rises, more, rises_of, rising_put}
-use Rattle.clock.proofs.LexicographicOrder.{clash}
 use Rattle.words.proofs.Words.{lt_or_le}
-use Rattle.words.proofs.Conjunction.{and_left, and_right}
 use Rattle.clock.proofs.ClockArea.{length_column, column_at}
 use Rattle.working.specs.Inside.Columns.{ins_at}
-use Rattle.working.specs.Inside.DrainClock.{ticks, Clocked, Ascends, Parts, stands_at, Ticked}
+use Rattle.working.specs.Inside.DrainClock.{ticks, Clocked, Ticked}
 
 -- rising authors, by index
 pairs_rise : {lo : ℕ} (ks ns : List ℕ) → length ks ≡ length ns → Rises lo (pairs ks ns) → (j : ℕ) → j < length ks → lo ≤ get_or ks j 0
@@ -33,7 +35,7 @@ pairs_rise (k ∷ ks) [] e r j h = absurd (omega arith)
 pairs_rise (k ∷ ks) (n ∷ ns) e (more l r) zero h = l
 pairs_rise (k ∷ ks) (n ∷ ns) e (more l r) (suc j) h = omega (arith, pairs_rise ks ns (omega arith) r j (omega arith))
 
-pairs_ascend : {lo : ℕ} (ks ns : List ℕ) → length ks ≡ length ns → Rises lo (pairs ks ns) → Ascends ks (length ks)
+pairs_ascend : {lo : ℕ} (ks ns : List ℕ) → length ks ≡ length ns → Rises lo (pairs ks ns) → (i j : ℕ) → i < j → j < length ks → get_or ks i 0 < get_or ks j 0
 unfolding pairs
 pairs_ascend [] ns e r i j h k = absurd (omega arith)
 pairs_ascend (a ∷ ks) [] e r i j h k = absurd (omega arith)
@@ -52,40 +54,16 @@ module _ (ks ns : List ℕ) (n : ℕ) (c : Clocked ks ns n) where
   unfolding ticks
   rises = rises_of 0 _ c.rises
 
-  pub ascends : Ascends ks n
-  ascends i j h k =
-      let g : get_or (take n ks) i 0 < get_or (take n ks) j 0 = pairs_ascend (take n ks) (take n ns) (lk ∙ sym ln) rises i j h (rw lk k) in
-      rw (get_or-take n ks i 0 (omega arith), get_or-take n ks j 0 k) at g
+  ascend : (i j : ℕ) → i < j → j < length (take n ks) → get_or (take n ks) i 0 < get_or (take n ks) j 0
+  ascend = pairs_ascend (take n ks) (take n ns) (lk ∙ sym ln) rises
 
--- the search, by halves
-module _ (ks : List ℕ) (n a mid : ℕ) (s : Ascends ks n) (h : mid < n) where
-  pub parts_low : get_or ks mid 0 < a → (j : ℕ) → j < mid + 1 → get_or ks j 0 < a
-  parts_low k j l = elim (lt_or_le j mid) [
-    | inl g ↦ omega (arith, s j mid g h)
-    | inr g ↦
-        let e : j ≡ mid = omega arith in
-        rw e k
+  rise : (i j : ℕ) → i ≤ j → j < length (take n ks) → get_or (take n ks) i 0 ≤ get_or (take n ks) j 0
+  rise i j h k = elim (lt_or_le i j) [
+    | inl l ↦ omega (arith, ascend i j l k)
+    | inr l ↦
+        let e : i ≡ j = omega arith in
+        rw e (omega arith)
   ]
-
-  pub parts_high : a ≤ get_or ks mid 0 → (j : ℕ) → mid ≤ j → j < n → a ≤ get_or ks j 0
-  parts_high k j l m = elim (lt_or_le mid j) [
-    | inl g ↦ omega (arith, s mid j g m)
-    | inr g ↦
-        let e : j ≡ mid = omega arith in
-        rw e k
-  ]
-
-pub parts_met : (ks : List ℕ) (n a low high : ℕ) → low ≡ high → low ≤ n → ((j : ℕ) → j < low → get_or ks j 0 < a)
-    → ((j : ℕ) → high ≤ j → j < n → a ≤ get_or ks j 0) → Parts ks n a low
-parts_met ks n a low high e h p q = record { within = h; below = p; above = λ j l m. q j (omega arith) m }
-
-pub stands_past : (ks : List ℕ) (n i a : ℕ) → n ≤ i → false ≡ stands_at ks n i a
-unfolding stands_at
-stands_past ks n i a h = rw (le-ltb i n h)
-
-pub stands_here : (ks : List ℕ) (n i a : ℕ) → i < n → eqb (get_or ks i 0) a ≡ stands_at ks n i a
-unfolding stands_at
-stands_here ks n i a h = rw (lt-ltb i n h)
 
 -- what the place tells of two columns side by side
 module _ (a v : ℕ) where
@@ -124,6 +102,22 @@ module _ (a v : ℕ) where
       let g : ltb a k ≡ false = le-ltb a k (omega arith) in
       (rw f q.0, rw (f, g) (ap (λ (x : List (ℕ × ℕ)). (k, n) ∷ x) q.1))
 
+-- the elements from i on moved up by one, and v written in the gap
+pub put_is : (s t : List ℕ) (n i v : ℕ) → i ≤ n → n + 1 ≤ length s → t ≡ copy_within s i n (i + 1) → set t i v ≡ put_in s n i v
+unfolding put_in
+put_is s t n i v h l e =
+    let f : i + 1 + (n - i) ≡ n + 1 = omega arith in
+    rw (
+      e,
+      f,
+      add-one i,
+      append_assoc (take (suc i) s) (take (n - i) (drop i s)) (drop (n + 1) s),
+      set-append_left (take (suc i) s) (take (n - i) (drop i s) ++ drop (n + 1) s) i v (simp length-take (omega arith)),
+      ← take-set-lt (suc i) s i v (omega arith),
+      take-suc-set s i v (omega arith),
+      append_assoc (take i s) (v ∷ []) (take (n - i) (drop i s) ++ drop (n + 1) s),
+    )
+
 -- the first n + 1 of a row into which v was put
 in_take : (s : List ℕ) (n i v : ℕ) → i ≤ n → n ≤ length s → take (n + 1) (put_in s n i v) ≡ ins_at i v (take n s)
 unfolding put_in ins_at
@@ -138,81 +132,60 @@ in_take (x ∷ s) (suc n) (suc i) v h l =
     let f : suc n + 1 ≡ suc (n + 1) = omega arith in
     rw (e, f) (ap (λ (y : List ℕ). x ∷ y) (in_take s n i v (omega arith) (omega arith)))
 
-module _ (ks ns : List ℕ) (n a i : ℕ) (c : Clocked ks ns n) (p : Parts ks n a i) where
-  at : (j : ℕ) → j < n → get_or (take n ks) j 0 ≡ get_or ks j 0
-  at j h = get_or-take n ks j 0 h
+-- what the search for an author tells
+module _ (ks ns : List ℕ) (n a : ℕ) (c : Clocked ks ns n) (i : ℕ) where
+  module _ (s : IsBinarySearchResult (λ y. nat_cmp y a) (take n ks) (Ok i)) where
+    place : (i < length (take n ks)) × (get_or (take n ks) i 0 ≡ a)
+    place = searched (take n ks) a (Ok i) s (rise ks ns n c)
 
-  low : i < n → (j : ℕ) → j < i → get_or (take n ks) j 0 < a
-  low h j l = rw (at j (omega arith)) (p.below j l)
+    pub below : i < n
+    below = omega (arith, place.0, lk ks ns n c)
 
-  here_is : (v : ℕ) → stands_at ks n i a ≡ true
-      → (get (pairs (take n ks) (take n ns)) a ≡ get_or (take n ns) i 0) × (pairs (take n ks) (set (take n ns) i v) ≡ put (pairs (take n ks) (take n ns)) a v)
-  unfolding stands_at
-  here_is v t =
-      let h : i < n = ltb-true i n (and_left _ _ t) in
-      let e : get_or ks i 0 ≡ a = eqb-true _ a (and_right (ltb i n) _ t) in
-      pairs_here a v (take n ks) (take n ns) i (lk ks ns n c ∙ sym (ln ks ns n c)) (rw (lk ks ns n c) h) (low h) (at i h ∙ e)
+    here_is : (v : ℕ)
+        → (get (pairs (take n ks) (take n ns)) a ≡ get_or (take n ns) i 0) × (pairs (take n ks) (set (take n ns) i v) ≡ put (pairs (take n ks) (take n ns)) a v)
+    here_is v =
+        pairs_here a v (take n ks) (take n ns) i (lk ks ns n c ∙ sym (ln ks ns n c)) place.0 (λ j h. rw place.1 at (ascend ks ns n c j i h place.0)) place.1
 
-  pub here_below : stands_at ks n i a ≡ true → i < n
-  unfolding stands_at
-  here_below t = ltb-true i n (and_left _ _ t)
+    pub get_here : get_or ns i 0 ≡ get (ticks ks ns n) a
+    unfolding ticks
+    get_here = sym ((here_is 0).0 ∙ get_or-take n ns i 0 below)
 
-  apart : stands_at ks n i a ≡ false → i < n → get_or ks i 0 ≡ a → ⊥
-  unfolding stands_at
-  apart t h e = clash (rw (lt-ltb i n h, eq-eqb _ a e)) t
+    pub put_here : (v : ℕ) → Ticked ks ns n a v ks (set ns i v) n
+    unfolding ticks
+    put_here v =
+        let e : take n (set ns i v) ≡ set (take n ns) i v = take-set-lt n ns i v below in
+        let q : pairs (take n ks) (take n (set ns i v)) ≡ put (pairs (take n ks) (take n ns)) a v = rw e (here_is v).1 in
+        record {
+          is = q;
+          clocked = record { authors = c.authors; numbers = rw (length-set ns i v) c.numbers; rises = rw q (rising_put _ c.rises a v) };
+          few = omega arith;
+        }
 
-  gap_is : (v : ℕ) → stands_at ks n i a ≡ false
-      → (get (pairs (take n ks) (take n ns)) a ≡ 0) × (pairs (ins_at i a (take n ks)) (ins_at i v (take n ns)) ≡ put (pairs (take n ks) (take n ns)) a v)
-  gap_is v t =
-      pairs_gap a v (take n ks) (take n ns) i (lk ks ns n c ∙ sym (ln ks ns n c)) (rises ks ns n c) (rw (lk ks ns n c) p.within)
-      (λ j l. rw (at j (omega (arith, p.within))) (p.below j l))
-      (λ j l m.
-      let m' : j < n = rw (lk ks ns n c) at m in
-      let g : a ≤ get_or ks j 0 = p.above j l m' in
-      rw (at j m')
-      (elim (lt_or_le i j) [
-        | inl x ↦ omega (arith, p.above i (omega arith) (omega arith), ascends ks ns n c i j x m')
-        | inr x ↦
-            let e : j ≡ i = omega arith in
-            rw e (above_here t (omega arith) (p.above i (omega arith) (omega arith)))
-      ]))
-    where
-      above_here : stands_at ks n i a ≡ false → i < n → a ≤ get_or ks i 0 → a < get_or ks i 0
-      above_here t h g = elim (lt_or_le a (get_or ks i 0)) [
-        | inl x ↦ x
-        | inr x ↦ absurd (apart t h (omega arith))
-      ]
+  module _ (s : IsBinarySearchResult (λ y. nat_cmp y a) (take n ks) (Err i)) where
+    gap : (i ≤ length (take n ks)) × ((k : ℕ) → k < i → get_or (take n ks) k 0 < a) × ((k : ℕ) → i ≤ k → k < length (take n ks) → a < get_or (take n ks) k 0)
+    gap = searched (take n ks) a (Err i) s (rise ks ns n c)
 
-  pub get_here : stands_at ks n i a ≡ true → get_or ns i 0 ≡ get (ticks ks ns n) a
-  unfolding ticks
-  get_here t = sym ((here_is 0 t).0 ∙ get_or-take n ns i 0 (here_below t))
+    pub within : i ≤ n
+    within = omega (arith, gap.0, lk ks ns n c)
 
-  pub get_gap : stands_at ks n i a ≡ false → 0 ≡ get (ticks ks ns n) a
-  unfolding ticks
-  get_gap t = sym (gap_is 0 t).0
+    gap_is : (v : ℕ) → (get (pairs (take n ks) (take n ns)) a ≡ 0) × (pairs (ins_at i a (take n ks)) (ins_at i v (take n ns)) ≡ put (pairs (take n ks) (take n ns)) a v)
+    gap_is v = pairs_gap a v (take n ks) (take n ns) i (lk ks ns n c ∙ sym (ln ks ns n c)) (rises ks ns n c) gap.0 gap.1 gap.2
 
-  pub put_here : (v : ℕ) → stands_at ks n i a ≡ true → Ticked ks ns n a v ks (set ns i v) n
-  unfolding ticks
-  put_here v t =
-      let e : take n (set ns i v) ≡ set (take n ns) i v = take-set-lt n ns i v (here_below t) in
-      let q : pairs (take n ks) (take n (set ns i v)) ≡ put (pairs (take n ks) (take n ns)) a v = rw e (here_is v t).1 in
-      record {
-        is = q;
-        clocked = record { authors = c.authors; numbers = rw (length-set ns i v) c.numbers; rises = rw q (rising_put _ c.rises a v) };
-        few = omega arith;
-      }
+    pub get_gap : 0 ≡ get (ticks ks ns n) a
+    unfolding ticks
+    get_gap = sym (gap_is 0).0
 
-  pub put_gap : (v : ℕ) (ks' ns' : List ℕ) → stands_at ks n i a ≡ false → n + 1 ≤ length ks → n + 1 ≤ length ns → length ks' ≡ length ks → length ns' ≡ length ns
-      → ks' ≡ put_in ks n i a → ns' ≡ put_in ns n i v → Ticked ks ns n a v ks' ns' (n + 1)
-  unfolding ticks
-  put_gap v ks' ns' t hk hn lk' ln' ek en =
-      let q : pairs (take (n + 1) ks') (take (n + 1) ns') ≡ put (pairs (take n ks) (take n ns)) a v =
-      rw (ek, en, in_take ks n i a p.within c.authors, in_take ns n i v p.within c.numbers) (gap_is v t).1 in
-      record {
-        is = q;
-        clocked = record { authors = omega arith; numbers = omega arith; rises = rw q (rising_put _ c.rises a v) };
-        few = omega arith;
-      }
+    pub put_gap : (v : ℕ) (ks' ns' : List ℕ) → n + 1 ≤ length ks → n + 1 ≤ length ns → length ks' ≡ length ks → length ns' ≡ length ns
+        → ks' ≡ put_in ks n i a → ns' ≡ put_in ns n i v → Ticked ks ns n a v ks' ns' (n + 1)
+    unfolding ticks
+    put_gap v ks' ns' hk hn lk' ln' ek en =
+        let q : pairs (take (n + 1) ks') (take (n + 1) ns') ≡ put (pairs (take n ks) (take n ns)) a v =
+        rw (ek, en, in_take ks n i a within c.authors, in_take ns n i v within c.numbers) (gap_is v).1 in
+        record {
+          is = q;
+          clocked = record { authors = omega arith; numbers = omega arith; rises = rw q (rising_put _ c.rises a v) };
+          few = omega arith;
+        }
 
 -- the clock of a head area
 column_is : (s l : List ℕ) (at n : ℕ) → n ≤ 32 → n ≤ length l → ((k : ℕ) → k < n → get_or l k 0 ≡ get64 s (at + 16 * k)) → take n l ≡ take n (column s at 32)

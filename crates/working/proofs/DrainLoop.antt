@@ -19,8 +19,7 @@ use Rattle.working.specs.Inside.Columns.{without, TakenOut, Pushed}
 use Rattle.working.specs.Inside.DrainClock.{ticks, Clocked, Ticked}
 use Rattle.working.specs.Inside.Looks.{ref_row, ready_ref, KeyOf, later, first_where}
 use Rattle.working.specs.declared.looks.Key.{Key}
-use Rattle.working.specs.declared.looks.Found.{Found}
-use Rattle.working.specs.declared.looks.Found.TheVariants.{At, Nothing}
+use Rattle.std.proofs.Common.{Option, Some, None}
 use Rattle.working.specs.declared.Draining.{Draining}
 use Rattle.working.proofs.ScratchColumns.{cells_at, Refs, none, refs_of, of_refs, refs_without, refs_snoc, ref_there}
 use Rattle.working.proofs.ReferenceRows.{row_time}
@@ -28,36 +27,36 @@ use Rattle.working.proofs.FirstReference.{found_below}
 use Rattle.words.specs.Choice.{pick}
 
 -- what the place of the first ready row means
-pub data Seen (c : List (ℕ × ℕ)) (held batch : List ℕ) (time : ℕ) (ks : List ℕ) : Found → Type 0 where
+pub data Seen (c : List (ℕ × ℕ)) (held batch : List ℕ) (time : ℕ) (ks : List ℕ) : Option ℕ → Type 0 where
   seen_at : {i : ℕ}
       → first_ready c (work_rows held batch time ks) ≡ first_is (work_row held batch time (get_or ks i 0)) (work_rows held batch time (without i ks))
-      → Seen c held batch time ks (At i)
-  seen_none : first_ready c (work_rows held batch time ks) ≡ none_ready → Seen c held batch time ks Nothing
+      → Seen c held batch time ks (Some i)
+  seen_none : first_ready c (work_rows held batch time ks) ≡ none_ready → Seen c held batch time ks None
 
 module _ (c : List (ℕ × ℕ)) (held batch : List ℕ) (time : ℕ) where
   ready_time : (k : ℕ) → ready c (work_row held batch time k).row ≡ ready_ref c held batch k
   unfolding ready_ref
   ready_time k = ap (ready c) (sym (row_time held batch k time))
 
-  seen_by : (k : ℕ) (ks : List ℕ) (f : Found) (b : Bool) → ready_ref c held batch k ≡ b → Seen c held batch time ks f → Seen c held batch time (k ∷ ks) (pick b (At 0) (later f))
+  seen_by : (k : ℕ) (ks : List ℕ) (f : Option ℕ) (b : Bool) → ready_ref c held batch k ≡ b → Seen c held batch time ks f → Seen c held batch time (k ∷ ks) (pick b (Some 0) (later f))
   unfolding later work_rows first_ready past without
   seen_by k ks f true e s = seen_at {i = 0} (rw (ready_time k, e))
-  seen_by k ks (At i) false e (seen_at q) = seen_at {i = suc i} (rw (ready_time k, e, q))
-  seen_by k ks Nothing false e (seen_none q) = seen_none (rw (ready_time k, e, q))
+  seen_by k ks (Some i) false e (seen_at q) = seen_at {i = suc i} (rw (ready_time k, e, q))
+  seen_by k ks None false e (seen_none q) = seen_none (rw (ready_time k, e, q))
 
   seen : (ks : List ℕ) → Seen c held batch time ks (first_where (ready_ref c held batch) ks)
   unfolding first_where work_rows first_ready
   seen [] = seen_none refl
   seen (k ∷ ks) = seen_by k ks (first_where (ready_ref c held batch) ks) (ready_ref c held batch k) refl (seen ks)
 
-  seen_is : (ks : List ℕ) (f : Found) → f ≡ first_where (ready_ref c held batch) ks → Seen c held batch time ks f
+  seen_is : (ks : List ℕ) (f : Option ℕ) → f ≡ first_where (ready_ref c held batch) ks → Seen c held batch time ks f
   seen_is ks f e = rw e (seen ks)
 
-at_pick : {c : List (ℕ × ℕ)} {held batch : List ℕ} {time i : ℕ} {ks : List ℕ} → Seen c held batch time ks (At i)
+at_pick : {c : List (ℕ × ℕ)} {held batch : List ℕ} {time i : ℕ} {ks : List ℕ} → Seen c held batch time ks (Some i)
     → first_ready c (work_rows held batch time ks) ≡ first_is (work_row held batch time (get_or ks i 0)) (work_rows held batch time (without i ks))
 at_pick (seen_at q) = q
 
-none_pick : {c : List (ℕ × ℕ)} {held batch : List ℕ} {time : ℕ} {ks : List ℕ} → Seen c held batch time ks Nothing
+none_pick : {c : List (ℕ × ℕ)} {held batch : List ℕ} {time : ℕ} {ks : List ℕ} → Seen c held batch time ks None
     → first_ready c (work_rows held batch time ks) ≡ none_ready
 none_pick (seen_none q) = q
 
@@ -132,7 +131,7 @@ module _ {held batch s₀ ks₀ ns₀ : List ℕ} {n m₀ : ℕ} {s ks ns : List
   going_working = record { room = omega arith; refs = of_refs g.working }
 
   -- a row that is found leaves room for what is done with it
-  module _ (j : ℕ) (e : At j ≡ first_where (ready_ref (ticks ks ns m) held batch) (column s 0 left)) where
+  module _ (j : ℕ) (e : Some j ≡ first_where (ready_ref (ticks ks ns m) held batch) (column s 0 left)) where
     pub turn : (j < left) × (left + logged + dropped ≤ 128)
     turn = (found_below (ready_ref (ticks ks ns m) held batch) s left j e, omega (arith, g.total, g.fits))
 
@@ -151,11 +150,11 @@ module _ {held batch s₀ ks₀ ns₀ : List ℕ} {n m₀ : ℕ} {s ks ns : List
     pub put_needs : Clocked ks ns m × (m + 1 ≤ length ks) × (m + 1 ≤ length ns)
     put_needs = (g.clocked, omega (arith, turn.0), omega (arith, turn.0))
 
-  pub going_end : Nothing ≡ first_where (ready_ref (ticks ks ns m) held batch) (column s 0 left) → (time : ℕ)
+  pub going_end : None ≡ first_where (ready_ref (ticks ks ns m) held batch) (column s 0 left) → (time : ℕ)
       → Drains (ticks ks₀ ns₀ m₀) held batch time s₀ s n (record { waiting = left; logged = logged; dropped = dropped; authors = m })
   going_end e time = record {
     drained = record { clock = ticks ks ns m; waiting = work_rows held batch time (column s 0 left); logged = work_rows held batch time (column s 8 logged); dropped = dropped };
-    is = sym (drain_stuck left (standing (ticks ks ns m) (work_rows held batch time (column s 0 left)) (work_rows held batch time (column s 8 logged)) dropped) (none_pick (seen_is _ held batch time (column s 0 left) Nothing e))) ∙ g.whole time;
+    is = sym (drain_stuck left (standing (ticks ks ns m) (work_rows held batch time (column s 0 left)) (work_rows held batch time (column s 8 logged)) dropped) (none_pick (seen_is _ held batch time (column s 0 left) None e))) ∙ g.whole time;
     waiting = refl;
     logged = refl;
     dropped = refl;
@@ -166,7 +165,7 @@ module _ {held batch s₀ ks₀ ns₀ : List ℕ} {n m₀ : ℕ} {s ks ns : List
   }
 
   module _ (j k : ℕ) (key : Key) (t : List ℕ) (b : Bool)
-      (e : At j ≡ first_where (ready_ref (ticks ks ns m) held batch) (column s 0 left))
+      (e : Some j ≡ first_where (ready_ref (ticks ks ns m) held batch) (column s 0 left))
       (ek : k ≡ get64 s (16 * j)) (l : KeyOf (ref_row held batch k) key) (out : TakenOut s t left j)
       (eb : b ≡ eqb key.seq (suc (get (ticks ks ns m) key.actor.0))) where
     below : j < left
@@ -192,7 +191,7 @@ module _ {held batch s₀ ks₀ ns₀ : List ℕ} {n m₀ : ℕ} {s ks ns : List
 
       picked : first_ready (ticks ks ns m) (work_rows held batch time (column s 0 left)) ≡ first_is row (work_rows held batch time (without j (column s 0 left)))
       unfolding row
-      picked = rw at_j at (at_pick (seen_is _ held batch time (column s 0 left) (At j) e))
+      picked = rw at_j at (at_pick (seen_is _ held batch time (column s 0 left) (Some j) e))
 
       tested : (x : Bool) → b ≡ x → eqb row.row.seq (suc (get (ticks ks ns m) row.row.author)) ≡ x
       tested x q = rw (seq_is, author_is) (sym eb ∙ q)

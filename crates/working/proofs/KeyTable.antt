@@ -8,6 +8,7 @@ use native.Mathlib.Nat.{add-zero}
 use native.Mathlib.Numerals.{add-one}
 use lib.ListN.{length, get_or, set}
 use lib.Seq.{sets-eq}
+use Rattle.std.specs.List.{CopiedTo, SameBelow}
 use Rattle.words.specs.Be.{get64, column}
 use Rattle.words.specs.Areas.{put_at}
 use Rattle.words.proofs.Words.{lt_or_le}
@@ -19,16 +20,15 @@ use Rattle.working.proofs.ScratchWord.{put_low, put_mid, put_high}
 use Rattle.working.proofs.ScratchColumns.{length_cells, cells_at}
 
 -- ---- a key written
-kept : (s t : List ℕ) (b : ℕ) → ((m : ℕ) → b ≤ m → m < b + 5 → get_or t m 0 ≡ get_or s m 0) → key_at t b ≡ key_at s b
+-- five words that stand elsewhere are the same key there
+moved : (s t : List ℕ) (a b : ℕ) → ((m : ℕ) → m < 5 → get_or t (b + m) 0 ≡ get_or s (a + m) 0) → key_at t b ≡ key_at s a
 unfolding key_at
-kept s t b f =
-    rw (
-      f b (omega arith) (omega arith),
-      f (b + 1) (omega arith) (omega arith),
-      f (b + 2) (omega arith) (omega arith),
-      f (b + 3) (omega arith) (omega arith),
-      f (b + 4) (omega arith) (omega arith),
-    )
+moved s t a b f =
+    let e : get_or t b 0 ≡ get_or s a 0 = rw (add-zero b, add-zero a) at (f 0 (omega arith)) in
+    rw (e, f 1 (omega arith), f 2 (omega arith), f 3 (omega arith), f 4 (omega arith))
+
+kept : (s t : List ℕ) (b : ℕ) → ((m : ℕ) → b ≤ m → m < b + 5 → get_or t m 0 ≡ get_or s m 0) → key_at t b ≡ key_at s b
+kept s t b f = moved s t b b (λ m h. f (b + m) (omega arith) (omega arith))
 
 module _ (s : List ℕ) (at : ℕ) (key : Key) (h : at + 5 ≤ length s) where
   abbrev five : List ℕ
@@ -63,29 +63,15 @@ module _ (s : List ℕ) (at : ℕ) (key : Key) (h : at + 5 ≤ length s) where
   pub key_written : key.stamp.logical_counter < 4294967296 → KeyWritten s written at key
   key_written l = rw stores (put_five l)
 
--- ---- a key put in: what stands below the gap at j, and what moved up past it, are what stood there
-pub record KeyGap (s₀ s : List ℕ) (n j : ℕ) : Type 0 where
-  pub below : (m : ℕ) → m < j → key_at s (5 * m) ≡ key_at s₀ (5 * m)
-  pub above : (m : ℕ) → j ≤ m → m < n → key_at s (5 * (m + 1)) ≡ key_at s₀ (5 * m)
-
-pub key_gap : (s : List ℕ) (n : ℕ) → KeyGap s s n n
-key_gap s n = record { below = λ m h. refl; above = λ m h k. absurd (omega arith) }
-
-pub key_up : (s₀ s t : List ℕ) (n j : ℕ) (x : Key) → 0 < j → j ≤ n → x ≡ key_at s (5 * j - 5) → KeyWritten s t (5 * j) x → KeyGap s₀ s n j → KeyGap s₀ t n (j - 1)
-key_up s₀ s t n j x h l e w g = record {
-  below = λ m b. w.else (5 * m) (inl (omega arith)) ∙ g.below m (omega arith);
-  above = λ m b k. elim (lt_or_le m j) [
-    | inl o ↦
-        ap (key_at t) (omega arith) ∙ w.here ∙ e ∙ ap (key_at s) (omega arith) ∙ g.below m o
-    | inr o ↦ w.else (5 * (m + 1)) (inr (omega arith)) ∙ g.above m o k
-  ];
-}
-
-pub key_in : (s₀ s t : List ℕ) (n i j : ℕ) (key : Key) → j ≡ i → KeyWritten s t (5 * i) key → KeyGap s₀ s n j → KeyIn s₀ t n i key
-key_in s₀ s t n i j key e w g = record {
-  below = λ m h. w.else (5 * m) (inl (omega arith)) ∙ g.below m (omega arith);
+-- ---- a key put in: the others from i on are moved up, and it is written in the gap
+pub key_in : (s₀ s t : List ℕ) (n i : ℕ) (key : Key) → i ≤ n → CopiedTo s₀ s (5 * i) (5 * i + 5) (5 * n - 5 * i) → SameBelow s₀ s (5 * i + 5)
+    → KeyWritten s t (5 * i) key → KeyIn s₀ t n i key
+key_in s₀ s t n i key l f g w = record {
+  below = λ m h. w.else (5 * m) (inl (omega arith)) ∙ kept s₀ s (5 * m) (λ x a b. g x 0 (omega arith));
   here = w.here;
-  above = λ m h k. w.else (5 * (m + 1)) (inr (omega arith)) ∙ g.above m (omega arith) k;
+  above = λ m h k.
+      w.else (5 * (m + 1)) (inr (omega arith))
+      ∙ moved s₀ s (5 * m) (5 * (m + 1)) (λ x a. f (5 * (m + 1) + x) 0 (omega arith) (omega arith) ∙ ap (λ (y : ℕ). get_or s₀ y 0) (omega arith));
 }
 
 -- ---- an element of a list with k put in at i

@@ -1,28 +1,29 @@
 -- The row of a reference: what of it a look reads.
 use Prim.Native.Nat.{ℕ, zero, suc, ◌+◌, ◌-◌, ◌*◌, ◌≤◌, ◌<◌}
 use mathlib.Core.Path.{◌≡◌, refl, sym, ◌∙◌, ap}
-use mathlib.Core.Bool.{Bool, true, false, not, ◌&&◌}
+use mathlib.Core.Bool.{Bool, true, false, ◌&&◌}
 use mathlib.Core.Logic.{inl, inr}
 use mathlib.Core.List.{List, [], ◌∷◌}
 use native.Mathlib.Omega.{arith}
-use lib.Dec.{leb, eqb}
+use lib.Dec.{leb}
 use lib.ListN.{length, take, drop, get_or, drop_of_length-le}
 use lib.Seq.{length-take-le, get_or-take}
-use borrow.Author.Tests.{lt-ltb, le-ltb, le-leb, lt-leb, eq-eqb, ne_eqb, not-true, not-false}
+use borrow.Author.Tests.{lt-ltb, le-ltb, le-leb, lt-leb}
 use Rattle.words.specs.Be.{get64}
 use Rattle.words.proofs.Words.{lt_or_le}
 use Rattle.error.specs.declared.Refusal.{Refusal}
+use Rattle.std.specs.Result.{is_ok}
+use Rattle.std.specs.declared.result.Result.TheVariants.{Ok, Err}
 use Rattle.error.specs.Answer.{Got, got, bad, after}
 use Rattle.clock.specs.Entries.{get, dominates}
 use Rattle.clock.specs.Vector.{pairs}
-use Rattle.clock.proofs.LexicographicOrder.{clash}
+use Rattle.codec.proofs.ReadSteps.{got_value}
 use Rattle.row.specs.Rows.{Row, HeldRow}
 use Rattle.row.specs.Slots.{slot_at, slot_ok, decode_held, deps_at}
-use Rattle.row.specs.Reading.{Head, BatchRow, read_head, read_deps, read_part, read_closing, read_row, batch_row}
-use Rattle.row.specs.Values.{deps_of, ended_by}
+use Rattle.row.specs.declared.reader.Head.{Head}
+use Rattle.row.specs.Reading.{BatchRow, read_head, read_deps, read_part, read_closing, read_row, batch_row}
+use Rattle.row.specs.Values.{deps_of, ReadsDeps}
 use Rattle.row.specs.declared.Deps.{Deps}
-use Rattle.row.specs.declared.Reading.{Reading}
-use Rattle.row.specs.declared.Reading.TheVariants as ended
 use Rattle.row.proofs.Operations.{word_part, slot_bounds}
 use Rattle.row.proofs.DepsPairs.{length_deps, length_pairs}
 use Rattle.merging.specs.Merging.{ready}
@@ -80,8 +81,8 @@ module _ (held batch : List ℕ) (k : ℕ) where
 
   -- its row does not depend on when it arrived
   row_by : (time : ℕ) (g : Got BatchRow) → (arrived_by 0 g).row ≡ (arrived_by time g).row
-  row_by time (got b n) = refl
-  row_by time (bad r) = refl
+  row_by time (Ok (b, n)) = refl
+  row_by time (Err r) = refl
 
   pub row_time : (time : ℕ) → ref_row held batch k ≡ (work_row held batch time k).row
   unfolding ref_row
@@ -94,25 +95,25 @@ module _ (held batch : List ℕ) (k : ℕ) where
 
 -- ---- a row of the batch, part by part
 pub read_of : {A : Type 0} (g : Got A) → is_read g ≡ true → (a : A) × (n : ℕ) × (g ≡ got a n)
-read_of (got a n) h = (a, n, refl)
-read_of (bad r) h = absurd (let z : ◌≡◌ {A = ℕ} 0 1 = cc in omega arith)
+read_of (Ok (a, n)) h = (a, n, refl)
+read_of (Err r) h = absurd (let z : ◌≡◌ {A = ℕ} 0 1 = cc in omega arith)
 
 pub after_read : {A B : Type 0} (g : Got A) (f : A → ℕ → Got B) → is_read (after g f) ≡ true → (a : A) × (n : ℕ) × (g ≡ got a n)
-after_read (got a n) f h = (a, n, refl)
-after_read (bad r) f h = absurd (let z : ◌≡◌ {A = ℕ} 0 1 = cc in omega arith)
+after_read (Ok (a, n)) f h = (a, n, refl)
+after_read (Err r) f h = absurd (let z : ◌≡◌ {A = ℕ} 0 1 = cc in omega arith)
 
 after_all : {A B : Type 0} (P : Got B → Type 0) (g : Got A) (f : A → ℕ → Got B) → ((r : Refusal) → P (bad r)) → ((a : A) (n : ℕ) → P (f a n)) → P (after g f)
-after_all P (got a n) f p q = q a n
-after_all P (bad r) f p q = p r
+after_all P (Ok (a, n)) f p q = q a n
+after_all P (Err r) f p q = p r
 
 -- what is read begins with these numbers, and has these dependencies
 abbrev Heads : Head → Got BatchRow → Type 0
-Heads head (got b n) = (b.row.stamp ≡ head.stamp) × (b.row.author ≡ head.author) × (b.row.seq ≡ head.seq)
-Heads head (bad r) = ◌≡◌ {A = ℕ} 0 0
+Heads head (Ok (b, n)) = (b.row.stamp ≡ head.timestamp) × (b.row.author ≡ head.actor.0) × (b.row.seq ≡ head.seq)
+Heads head (Err r) = ◌≡◌ {A = ℕ} 0 0
 
 abbrev Causes : List (ℕ × ℕ) → Got BatchRow → Type 0
-Causes ds (got b n) = b.row.deps ≡ ds
-Causes ds (bad r) = ◌≡◌ {A = ℕ} 0 0
+Causes ds (Ok (b, n)) = b.row.deps ≡ ds
+Causes ds (Err r) = ◌≡◌ {A = ℕ} 0 0
 
 module _ (s : List ℕ) where
   unfoldable past_deps : Head → List (ℕ × ℕ) → ℕ → Got BatchRow
@@ -153,15 +154,15 @@ module _ (s : List ℕ) where
     heads = rw tail_is (after_all (Heads head) (read_deps s next) _ (λ r. refl) (λ deps at. past_heads head deps at))
 
     of_heads : (g : Got BatchRow) → is_read g ≡ true → Heads head g
-        → ((arrived_by 0 g).row.stamp ≡ head.stamp) × ((arrived_by 0 g).row.author ≡ head.author) × ((arrived_by 0 g).row.seq ≡ head.seq)
-    of_heads (got b n) h p = p
-    of_heads (bad r) h p = absurd (let z : ◌≡◌ {A = ℕ} 0 1 = cc in omega arith)
+        → ((arrived_by 0 g).row.stamp ≡ head.timestamp) × ((arrived_by 0 g).row.author ≡ head.actor.0) × ((arrived_by 0 g).row.seq ≡ head.seq)
+    of_heads (Ok (b, n)) h p = p
+    of_heads (Err r) h p = absurd (let z : ◌≡◌ {A = ℕ} 0 1 = cc in omega arith)
 
-    pub head_fields : ((batch_row_at s at).stamp ≡ head.stamp) × ((batch_row_at s at).author ≡ head.author) × ((batch_row_at s at).seq ≡ head.seq)
+    pub head_fields : ((batch_row_at s at).stamp ≡ head.timestamp) × ((batch_row_at s at).author ≡ head.actor.0) × ((batch_row_at s at).seq ≡ head.seq)
     unfolding batch_row_at
     head_fields = of_heads (read_row s at) t heads
 
-    pub head_key : (key : Key) → key.stamp ≡ head.stamp → key.actor.0 ≡ head.author → key.seq ≡ head.seq → KeyOf (batch_row_at s at) key
+    pub head_key : (key : Key) → key.stamp ≡ head.timestamp → key.actor.0 ≡ head.actor.0 → key.seq ≡ head.seq → KeyOf (batch_row_at s at) key
     head_key key p q r = record { stamp = p ∙ sym head_fields.0; author = q ∙ sym head_fields.1; seq = r ∙ sym head_fields.2 }
 
     -- and its dependencies
@@ -170,8 +171,8 @@ module _ (s : List ℕ) where
     deps_got = after_read (read_deps s next) _ (rw tail_is at t)
 
     of_causes : (ds : List (ℕ × ℕ)) (g : Got BatchRow) → is_read g ≡ true → Causes ds g → (arrived_by 0 g).row.deps ≡ ds
-    of_causes ds (got b n) h p = p
-    of_causes ds (bad r) h p = absurd (let z : ◌≡◌ {A = ℕ} 0 1 = cc in omega arith)
+    of_causes ds (Ok (b, n)) h p = p
+    of_causes ds (Err r) h p = absurd (let z : ◌≡◌ {A = ℕ} 0 1 = cc in omega arith)
 
     deps_is : (batch_row_at s at).deps ≡ deps_got.0
     unfolding batch_row_at past_head
@@ -179,18 +180,16 @@ module _ (s : List ℕ) where
         let q : read_row s at ≡ past_deps head deps_got.0 deps_got.1 = tail_is ∙ rw deps_got.2 in
         of_causes deps_got.0 (read_row s at) t (rw q (past_causes head deps_got.0 deps_got.1))
 
-    ended_got : (r : Reading) (ds es : List (ℕ × ℕ)) (n : ℕ) → ended_by r ds ≡ got es n → ds ≡ es
-    ended_got (ended.Read m) ds es n q = cc
-    ended_got (ended.Refused k) ds es n q = absurd (let z : ◌≡◌ {A = ℕ} 0 1 = cc in omega arith)
+    pub deps_there : {r : Got Deps} → ReadsDeps s next r → is_ok r ≡ true
+    deps_there {r = Ok (d, n)} p = refl
+    deps_there {r = Err k} p = ap is_ok (p.is ∙ deps_got.2)
 
-    pub deps_field : (r : Reading) (ds : List (ℕ × ℕ)) → ended_by r ds ≡ read_deps s next → ds ≡ (batch_row_at s at).deps
-    deps_field r ds q = ended_got r ds deps_got.0 deps_got.1 (q ∙ deps_got.2) ∙ sym deps_is
+    pub deps_field : {d : Deps} {n : ℕ} → ReadsDeps s next (got d n) → deps_of d ≡ (batch_row_at s at).deps
+    deps_field p = got_value (p.is ∙ deps_got.2) ∙ sym deps_is
 
   -- a row that is read has a head
-  pub no_head_lem : (at : ℕ) (r : Refusal) → is_read (read_row s at) ≡ true → read_head s at ≡ bad r → ⊥
-  no_head_lem at r t e =
-      let q : read_row s at ≡ bad r = read_row_is at ∙ rw e in
-      clash t (rw q)
+  pub head_there : (at : ℕ) → is_read (read_row s at) ≡ true → is_ok (read_head s at) ≡ true
+  head_there at t = ap is_ok (after_read (read_head s at) _ (rw (read_row_is at) at t)).2
 
 -- ---- dependencies that are met, one by one
 abbrev pub LeftMet : List (ℕ × ℕ) → List (ℕ × ℕ) → ℕ → Type 0
@@ -234,29 +233,14 @@ pairs_next (k ∷ ks) (n ∷ ns) (suc i) h q =
     rw g (pairs_next ks ns i (omega arith) (omega arith))
 
 -- ---- readiness
-pub reach : (s h : ℕ) → (s ≡ 0 → ⊥) → leb (s - 1) h ≡ leb s (suc h)
-reach s h n = elim (lt_or_le h (s - 1)) [
-  | inl l ↦ rw (lt-leb (s - 1) h l, lt-leb s (suc h) (omega arith))
-  | inr l ↦ rw (le-leb (s - 1) h l, le-leb s (suc h) (omega arith))
-]
-
-pub next_is : (s h : ℕ) → (s ≡ 0 → ⊥) → eqb (s - 1) h ≡ eqb s (suc h)
-next_is s h n = elim (lt_or_le h (s - 1)) [
-  | inl l ↦ rw (ne_eqb (s - 1) h (λ e. omega arith), ne_eqb s (suc h) (λ e. omega arith))
-  | inr l ↦ elim (lt_or_le (s - 1) h) [
-    | inl m ↦ rw (ne_eqb (s - 1) h (λ e. omega arith), ne_eqb s (suc h) (λ e. omega arith))
-    | inr m ↦ rw (eq-eqb (s - 1) h (omega arith), eq-eqb s (suc h) (omega arith))
-  ]
-]
-
 module _ (c : List (ℕ × ℕ)) (r : Row) (a s : ℕ) (b : Bool) (ea : a ≡ r.author) (es : s ≡ r.seq) (eb : b ≡ leb s (suc (get c a))) where
-  pub ready_not : not b ≡ true → false ≡ ready c r
+  pub ready_not : b ≡ false → false ≡ ready c r
   unfolding ready
-  ready_not t = rw (← ea, ← es, ← eb, not-true b t)
+  ready_not t = rw (← ea, ← es, ← eb, t)
 
-  pub ready_met : (m : Bool) (ds : List (ℕ × ℕ)) → ds ≡ r.deps → not b ≡ false → m ≡ dominates c ds → m ≡ ready c r
+  pub ready_met : (m : Bool) (ds : List (ℕ × ℕ)) → ds ≡ r.deps → b ≡ true → m ≡ dominates c ds → m ≡ ready c r
   unfolding ready
-  ready_met m ds ed t e = rw (← ea, ← es, ← ed, ← eb, not-false b t) e
+  ready_met m ds ed t e = rw (← ea, ← es, ← ed, ← eb, t) e
 
 -- ---- the dependencies in a slot, word by word
 module _ (s : List ℕ) (base : ℕ) (t : slot_ok (slot_at s base) ≡ true) where

@@ -138,12 +138,12 @@ split s at (suc i) m =
     let f : at + 16 * suc i ≡ at + 16 + 16 * i = omega arith in
     rw (e, f) (ap (λ (l : List ℕ). get64 s at ∷ l) (split s (at + 16) i m))
 
-pub gap_turn : (s₀ s t : List ℕ) (n j x : ℕ) → 0 < j → j ≤ n → x ≡ get64 s (16 * j - 16) → Written s t (16 * j) x → Gap s₀ s n j → Gap s₀ t n (j - 1)
+pub gap_turn : (s₀ s t : List ℕ) (n j x : ℕ) → 0 < j → j ≤ n → x ≡ get64 s (16 * (j - 1)) → Written s t (16 * (j - 1) + 16) x → Gap s₀ s n j → Gap s₀ t n (j - 1)
 unfolding Gap
 gap_turn s₀ s t n j x h k e w g =
     let a : column t 0 (j - 1) ≡ column s 0 (j - 1) = cells_keep s t 0 (j - 1) (λ y l. w.else (0 + 16 * y) (inl (omega arith))) in
     let b : column t (16 * (j + 1)) (n - j) ≡ column s (16 * (j + 1)) (n - j) = cells_keep s t (16 * (j + 1)) _ (λ y l. w.else (16 * (j + 1) + 16 * y) (inr (omega arith))) in
-    let c : get64 t (16 * j) ≡ get64 s (0 + 16 * (j - 1)) = w.here ∙ e ∙ ap (get64 s) (omega arith) in
+    let c : get64 t (16 * j) ≡ get64 s (0 + 16 * (j - 1)) = ap (get64 t) (omega arith) ∙ w.here ∙ e ∙ ap (get64 s) (omega arith) in
     let d : 16 * (j - 1 + 1) ≡ 16 * j = omega arith in
     let f : n - (j - 1) ≡ n + 1 - j = omega arith in
     let m : n + 1 - (j + 1) ≡ n - j = omega arith in

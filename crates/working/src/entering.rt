@@ -1,77 +1,51 @@
 // One row of the batch into the working rows: a duplicate, a conflict, or put in where it goes.
 ghost use Rattle.std.specs.Prelude.{◌≡◌, true, List, ℕ, ◌+◌, ◌*◌, ◌≤◌, length};
-ghost use Rattle.clock.specs.Order.{less};
 ghost use Rattle.row.specs.Reading.{read_row};
 ghost use Rattle.working.specs.Inside.References.{is_read};
 ghost use Rattle.working.specs.Inside.Scratch.{Working};
 ghost use Rattle.working.specs.Inside.DrainClock.{ticks, Clocked};
-ghost use Rattle.working.specs.Inside.Looks.{ref_row, KeyOf, numbers_of, id_ref, before_ref, first_where, place_in};
+ghost use Rattle.working.specs.Inside.Looks.{ref_row, KeyOf, id_ref, before_ref, first_where, place_in};
 ghost use Rattle.working.specs.Inside.Keys.{key_at, Keyed};
 ghost use Rattle.working.specs.Inside.Entry.{Entrant, Puts, Admits};
 ghost use Rattle.words.specs.Be.{column};
 
 use crate::contents::same_ref;
 use crate::keys::{key_at, put_key};
-use crate::looks::{Found, Key, batch_key};
+use crate::looks::{Key, batch_key};
 use crate::scratch::put_entry;
 use crate::ticking::clock_get;
+use error::Refusal;
 use row::reader::read_row;
 use stubs::ActorId;
 use words::raw::get_word;
 
-// What became of a row.
+// What became of a row that does not conflict.
 #[derive(Clone, Copy)]
 pub(crate) enum Admit {
     Duplicate,
-    Conflict { actor: ActorId, seq: u64 },
     Entered,
 }
 
-// By wall time, counter and author of the stamp, then author, then sequence.
-fn key_less(a: Key, b: Key) -> bool
-    ensures { result ≡ less (numbers_of a) (numbers_of b) }
-{
-    let s = a.stamp;
-    let t = b.stamp;
-    if s.less(t) {
-        return true;
-    }
-    if t.less(s) {
-        return false;
-    }
-    if a.actor.0 < b.actor.0 {
-        return true;
-    }
-    if b.actor.0 < a.actor.0 {
-        return false;
-    }
-    a.seq < b.seq
-}
-
 // Whether the key at `at` has this author and sequence.
+#[tactic(auto, unfolding(crate::specs::Inside::Looks::id_ref, crate::specs::Inside::Keys::key_at))]
 fn same_id(keys: &[u64], at: usize, actor: ActorId, seq: u64) -> bool
     requires { at + 5 ≤ length keys.now }
     ensures { (held batch : List ℕ) (k : ℕ) → KeyOf (ref_row held batch k) (key_at keys.now at) → result ≡ id_ref actor.0 seq held batch k }
 {
-    if actor.0 != keys[at + 3] {
-        return false;
-    }
-    seq == keys[at + 4]
+    actor.0 == keys[at + 3] && seq == keys[at + 4]
 }
 
 // The first of the n working rows with this author and sequence.
-fn seek(keys: &[u64], n: usize, actor: ActorId, seq: u64) -> Found
+fn seek(keys: &[u64], n: usize, actor: ActorId, seq: u64) -> Option<usize>
     requires { 5 * n ≤ length keys.now }
     ensures { (held batch s : List ℕ) → Keyed held batch s keys.now n → result ≡ first_where (id_ref actor.0 seq held batch) (column s 0 n) }
 {
-    let mut i: usize = 0;
-    while i < n {
+    for i in 0..n {
         if same_id(keys, 5 * i, actor, seq) {
-            return Found::At(i);
+            return Some(i);
         }
-        i += 1;
     }
-    Found::Nothing
+    None
 }
 
 // Whether a row goes before the row with the key at `at`.
@@ -79,8 +53,7 @@ fn goes_before(keys: &[u64], at: usize, key: Key) -> bool
     requires { at + 5 ≤ length keys.now }
     ensures { (held batch : List ℕ) (k : ℕ) → KeyOf (ref_row held batch k) (key_at keys.now at) → result ≡ before_ref key held batch k }
 {
-    let other = key_at(keys, at);
-    key_less(key, other)
+    key < key_at(keys, at)
 }
 
 // How many of the n working rows stand before a row.
@@ -89,12 +62,10 @@ fn place(keys: &[u64], n: usize, key: Key) -> usize
     ensures is { (held batch s : List ℕ) → Keyed held batch s keys.now n → result ≡ place_in n (first_where (before_ref key held batch) (column s 0 n)) }
     ensures within { result ≤ n }
 {
-    let mut i: usize = 0;
-    while i < n {
+    for i in 0..n {
         if goes_before(keys, 5 * i, key) {
             return i;
         }
-        i += 1;
     }
     n
 }
@@ -120,7 +91,7 @@ pub(crate) fn admit_one(
     authors: &[u64],
     numbers: &[u64],
     count: usize,
-) -> Admit
+) -> Result<Admit, Refusal>
     requires { Working held.now batch.now scratch.old n × (is_read (read_row batch.now at) ≡ true) × Clocked authors.now numbers.now count × (16 * n + 16 ≤ length scratch.old) × Keyed held.now batch.now scratch.old keys.old n × (5 * n + 5 ≤ length keys.old) }
     ensures { Admits (ticks authors.now numbers.now count) held.now batch.now scratch.old scratch.new keys.new n at result }
 {
@@ -129,19 +100,16 @@ pub(crate) fn admit_one(
     let seq = key.seq;
     let have = clock_get(authors, numbers, count, actor.0);
     if seq <= have {
-        return Admit::Duplicate;
+        return Ok(Admit::Duplicate);
     }
-    let Found::At(j) = seek(keys, n, actor, seq) else {
+    let Some(j) = seek(keys, n, actor, seq) else {
         enter(scratch, keys, n, (64 + at) as u64, key);
-        return Admit::Entered;
+        return Ok(Admit::Entered);
     };
     let k = get_word(scratch, 16 * j);
-    let row = read_row(batch, at);
+    let (row, _) = read_row(batch, at).unwrap();
     if same_ref(held, batch, k, row.op) {
-        return Admit::Duplicate;
+        return Ok(Admit::Duplicate);
     }
-    Admit::Conflict {
-        actor: actor,
-        seq: seq,
-    }
+    Err(Refusal::Conflict { actor, seq })
 }

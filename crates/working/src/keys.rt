@@ -9,6 +9,7 @@ use stubs::ActorId;
 use words::raw::get_word;
 
 // The key at `at`.
+#[tactic(auto, unfolding(crate::specs::Inside::Keys::key_at))]
 pub(crate) fn key_at(keys: &[u64], at: usize) -> Key
     requires { at + 5 ≤ length keys.now }
     ensures { result ≡ key_at keys.now at }
@@ -19,7 +20,7 @@ pub(crate) fn key_at(keys: &[u64], at: usize) -> Key
         actor_id: ActorId(keys[at + 2]),
     };
     Key {
-        stamp: stamp,
+        stamp,
         actor: ActorId(keys[at + 3]),
         seq: keys[at + 4],
     }
@@ -32,7 +33,7 @@ fn write_key(keys: &mut [u64], at: usize, key: Key)
 {
     let stamp = key.stamp;
     keys[at] = stamp.wall_time;
-    keys[at + 1] = stamp.logical_counter as u64;
+    keys[at + 1] = u64::from(stamp.logical_counter);
     keys[at + 2] = stamp.actor_id.0;
     keys[at + 3] = key.actor.0;
     keys[at + 4] = key.seq;
@@ -43,13 +44,7 @@ pub(crate) fn put_key(keys: &mut [u64], n: usize, i: usize, key: Key)
     requires { (i ≤ n) × (5 * n + 5 ≤ length keys.old) }
     ensures { KeyIn keys.old keys.new n i key }
 {
-    let mut j = n;
-    while i < j {
-        let at = 5 * j;
-        let other = key_at(keys, at - 5);
-        write_key(keys, at, other);
-        j -= 1;
-    }
+    keys.copy_within(5 * i..5 * n, 5 * i + 5);
     write_key(keys, 5 * i, key);
 }
 
@@ -58,11 +53,9 @@ pub(crate) fn load_keys(held: &[u8], batch: &[u8], scratch: &[u8], n: usize, key
     requires { Working held.now batch.now scratch.now n × (5 * n ≤ length keys.old) }
     ensures { Keyed held.now batch.now scratch.now keys.new n }
 {
-    let mut i: usize = 0;
-    while i < n {
+    for i in 0..n {
         let k = get_word(scratch, 16 * i);
         let key = load_key(held, batch, k);
         write_key(keys, 5 * i, key);
-        i += 1;
     }
 }

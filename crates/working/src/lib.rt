@@ -9,13 +9,11 @@ mod scratch; // the words of the scratch area
 mod ticking; // the clock that rows are drained by
 pub mod raw; // the three steps
 
-use error::Refusal;
-
-// How admission ended: how many working rows there are and how many rows were duplicates, or the conflict.
+// How admission ended: how many working rows there are, and how many rows were duplicates.
 #[derive(Clone, Copy)]
-pub enum Admitting {
-    Entered { working: usize, duplicates: usize },
-    Refused(Refusal),
+pub struct Admitting {
+    pub working: usize,
+    pub duplicates: usize,
 }
 
 // How draining ended: how many rows wait on, were logged, were dropped, and how many authors the clock has then.

@@ -15,23 +15,16 @@ use crate::ticking::clock_get;
 use clock::stamp::Timestamp;
 use row::Deps;
 use row::raw::{read_actor, read_seq, read_stamp};
-use row::reader::{HeadRead, read_deps, read_head};
+use row::reader::{read_deps, read_head};
 use stubs::ActorId;
 use words::raw::get_word;
 
-// What rows are known and ordered by.
-#[derive(Clone, Copy)]
+// What rows are known and ordered by. The order of its fields is the order of rows.
+#[derive(Clone, Copy, Debug, PartialEq, Eq, PartialOrd, Ord)]
 pub(crate) struct Key {
     pub stamp: Timestamp,
     pub actor: ActorId,
     pub seq: u64,
-}
-
-// The first of the working references that a test holds of.
-#[derive(Clone, Copy)]
-pub(crate) enum Found {
-    At(usize),
-    Nothing,
 }
 
 fn slot_key(held: &[u8], base: usize) -> Key
@@ -41,24 +34,7 @@ fn slot_key(held: &[u8], base: usize) -> Key
     let stamp = read_stamp(held, base);
     let actor = read_actor(held, base);
     let seq = read_seq(held, base);
-    Key {
-        stamp: stamp,
-        actor: actor,
-        seq: seq,
-    }
-}
-
-fn no_key() -> Key {
-    let stamp = Timestamp {
-        wall_time: 0,
-        logical_counter: 0,
-        actor_id: ActorId(0),
-    };
-    Key {
-        stamp: stamp,
-        actor: ActorId(0),
-        seq: 0,
-    }
+    Key { stamp, actor, seq }
 }
 
 // What the row at `at` of the batch is known and ordered by.
@@ -66,19 +42,11 @@ pub(crate) fn batch_key(batch: &[u8], at: usize) -> Key
     requires { is_read (read_row batch.now at) ≡ true }
     ensures { KeyOf (batch_row_at batch.now at) result }
 {
-    let HeadRead::Head {
-        timestamp,
-        actor,
-        seq,
-        next: _,
-    } = read_head(batch, at)
-    else {
-        return no_key();
-    };
+    let (head, _) = read_head(batch, at).unwrap();
     Key {
-        stamp: timestamp,
-        actor: actor,
-        seq: seq,
+        stamp: head.timestamp,
+        actor: head.actor,
+        seq: head.seq,
     }
 }
 
@@ -98,20 +66,14 @@ pub(crate) fn load_key(held: &[u8], batch: &[u8], k: u64) -> Key
 fn in_reach(seq: u64, have: u64) -> bool
     ensures { result ≡ leb seq (suc have) }
 {
-    if seq == 0 {
-        return true;
-    }
-    seq - 1 <= have
+    seq == 0 || seq - 1 <= have
 }
 
 // Whether seq is have + 1.
 fn is_next(seq: u64, have: u64) -> bool
     ensures { result ≡ eqb seq (suc have) }
 {
-    if seq == 0 {
-        return false;
-    }
-    seq - 1 == have
+    seq != 0 && seq - 1 == have
 }
 
 // Whether seq is the author's next number.
@@ -144,8 +106,7 @@ fn met_slot(held: &[u8], base: usize, authors: &[u64], numbers: &[u64], count: u
     ensures { result ≡ dominates (ticks authors.now numbers.now count) (decode_held (slot_at held.now base)).row.deps }
 {
     let n = get_word(held, base + 40) as usize;
-    let mut i: usize = 0;
-    while i < n {
+    for i in 0..n {
         let at = base + 16 * i;
         let a = get_word(held, at + 128);
         let want = get_word(held, at + 136);
@@ -153,7 +114,6 @@ fn met_slot(held: &[u8], base: usize, authors: &[u64], numbers: &[u64], count: u
         if want > have {
             return false;
         }
-        i += 1;
     }
     true
 }
@@ -163,15 +123,13 @@ fn met_deps(d: Deps, authors: &[u64], numbers: &[u64], count: usize) -> bool
     ensures { result ≡ dominates (ticks authors.now numbers.now count) (deps_of d) }
 {
     let n = d.count;
-    let mut i: usize = 0;
-    while i < n {
+    for i in 0..n {
         let a = d.authors[i];
         let want = d.numbers[i];
         let have = clock_get(authors, numbers, count, a);
         if have < want {
             return false;
         }
-        i += 1;
     }
     true
 }
@@ -192,20 +150,11 @@ fn ready_batch(batch: &[u8], at: usize, authors: &[u64], numbers: &[u64], count:
     requires { (is_read (read_row batch.now at) ≡ true) × Clocked authors.now numbers.now count }
     ensures { result ≡ ready (ticks authors.now numbers.now count) (batch_row_at batch.now at) }
 {
-    let HeadRead::Head {
-        timestamp: _,
-        actor,
-        seq,
-        next,
-    } = read_head(batch, at)
-    else {
-        return false;
-    };
-    if !reached(actor, seq, authors, numbers, count) {
+    let (head, deps_at) = read_head(batch, at).unwrap();
+    if !reached(head.actor, head.seq, authors, numbers, count) {
         return false;
     }
-    let causes = read_deps(batch, next);
-    let deps = causes.deps;
+    let (deps, _) = read_deps(batch, deps_at).unwrap();
     met_deps(deps, authors, numbers, count)
 }
 
@@ -237,17 +186,15 @@ pub(crate) fn first_ready(
     authors: &[u64],
     numbers: &[u64],
     count: usize,
-) -> Found
+) -> Option<usize>
     requires { Working held.now batch.now scratch.now n × Clocked authors.now numbers.now count }
     ensures { result ≡ first_where (ready_ref (ticks authors.now numbers.now count) held.now batch.now) (column scratch.now 0 n) }
 {
-    let mut i: usize = 0;
-    while i < n {
+    for i in 0..n {
         let k = get_word(scratch, 16 * i);
         if is_ready(held, batch, k, authors, numbers, count) {
-            return Found::At(i);
+            return Some(i);
         }
-        i += 1;
     }
-    Found::Nothing
+    None
 }

@@ -13,7 +13,7 @@ ghost use Rattle.merging.specs.Inside.RowStarts.{StartsAt};
 
 use crate::entering::{Admit, admit_one};
 use crate::keys::load_keys;
-use crate::looks::{Found, first_ready, load_key, next_of};
+use crate::looks::{first_ready, load_key, next_of};
 use crate::scratch::{push_logged, put_ref, take_entry};
 use crate::ticking::{clock_put, start_clock};
 use crate::{Admitting, Draining};
@@ -26,16 +26,13 @@ pub fn unexpired(held: &[u8], scratch: &mut [u8], count: usize, cutoff: u64) -> 
     ensures { (batch : List ℕ) (time : ℕ) → Unexpired held.now batch time cutoff (slots_at held.now 0 count) scratch.new result }
 {
     let mut n: usize = 0;
-    let mut i: usize = 0;
-    while i < count {
+    for i in 0..count {
         let arrived = get_word(held, 704 * i + 64);
         if arrived < cutoff {
-            i += 1;
             continue;
         }
         put_ref(scratch, 16 * n, i as u64);
         n += 1;
-        i += 1;
     }
     n
 }
@@ -52,41 +49,26 @@ fn admit_by(
     authors: &[u64],
     numbers: &[u64],
     count: usize,
-) -> Admitting
+) -> Result<Admitting, Refusal>
     requires { Working held.now batch.now scratch.old n × Begun batch.now starts.now rows × (n ≤ 64) × (rows ≤ 64) × (16 * (n + rows) ≤ length scratch.old) × Clocked authors.now numbers.now count × Keyed held.now batch.now scratch.old keys.old n × (5 * (n + rows) ≤ length keys.old) }
     ensures { (time first : ℕ) (bs : List BatchRow) (end : ℕ) → StartsAt batch.now starts.now first rows → read_rows batch.now first rows ≡ got bs end → AdmitsAll (ticks authors.now numbers.now count) held.now batch.now time scratch.old scratch.new n bs result }
 {
     let mut left = n;
     let mut duplicates: usize = 0;
-    let mut i: usize = 0;
-    while i < rows {
+    for i in 0..rows {
         let at = starts[i] as usize;
         let answer = admit_one(
             held, batch, scratch, keys, left, at, authors, numbers, count,
-        );
+        )?;
         match answer {
-            Admit::Duplicate => {
-                duplicates += 1;
-                i += 1;
-                continue;
-            }
-            Admit::Conflict { actor, seq } => {
-                return Admitting::Refused(Refusal::Conflict {
-                    actor: actor,
-                    seq: seq,
-                });
-            }
-            Admit::Entered => {
-                left += 1;
-                i += 1;
-                continue;
-            }
+            Admit::Duplicate => duplicates += 1,
+            Admit::Entered => left += 1,
         }
     }
-    Admitting::Entered {
+    Ok(Admitting {
         working: left,
-        duplicates: duplicates,
-    }
+        duplicates,
+    })
 }
 
 // Step 2: so many rows of the batch, each at its place in `starts`, a duplicate, a conflict or one more working row.
@@ -98,7 +80,7 @@ pub fn admit_all(
     n: usize,
     starts: &[u64],
     rows: usize,
-) -> Admitting
+) -> Result<Admitting, Refusal>
     requires { Working held.now batch.now scratch.old n × Begun batch.now starts.now rows × (n ≤ 64) × (rows ≤ 64) × (16 * (n + rows) ≤ length scratch.old) × (568 ≤ length head.now) × (sound (clock_at head.now 48) ≡ true) }
     ensures { (time first : ℕ) (bs : List BatchRow) (end : ℕ) → StartsAt batch.now starts.now first rows → read_rows batch.now first rows ≡ got bs end → AdmitsAll (entries (clock_at head.now 48)) held.now batch.now time scratch.old scratch.new n bs result }
 {
@@ -129,15 +111,7 @@ fn drain_by(
     let mut left = n;
     let mut logged: usize = 0;
     let mut dropped: usize = 0;
-    loop {
-        let Found::At(j) = first_ready(held, batch, scratch, left, authors, numbers, used) else {
-            return Draining {
-                waiting: left,
-                logged: logged,
-                dropped: dropped,
-                authors: used,
-            };
-        };
+    while let Some(j) = first_ready(held, batch, scratch, left, authors, numbers, used) {
         let k = get_word(scratch, 16 * j);
         let key = load_key(held, batch, k);
         take_entry(scratch, left, j);
@@ -148,9 +122,15 @@ fn drain_by(
             push_logged(scratch, logged, k);
             logged += 1;
             used = clock_put(authors, numbers, used, actor.0, seq);
-            continue;
+        } else {
+            dropped += 1;
         }
-        dropped += 1;
+    }
+    Draining {
+        waiting: left,
+        logged,
+        dropped,
+        authors: used,
     }
 }
 

@@ -16,13 +16,10 @@ pub(crate) fn take_entry(scratch: &mut [u8], n: usize, j: usize)
     requires { (j < n) × (16 * n ≤ length scratch.old) }
     ensures { TakenOut scratch.old scratch.new n j }
 {
-    let last = n - 1;
-    let mut i = j;
-    while i < last {
+    for i in j..n - 1 {
         let at = 16 * i;
         let k = get_word(scratch, at + 16);
         put_ref(scratch, at, k);
-        i += 1;
     }
 }
 
@@ -31,12 +28,10 @@ pub(crate) fn put_entry(scratch: &mut [u8], n: usize, i: usize, k: u64)
     requires { (i ≤ n) × (16 * n + 16 ≤ length scratch.old) }
     ensures { PutIn scratch.old scratch.new n i k }
 {
-    let mut j = n;
-    while i < j {
+    for j in (i..n).rev() {
         let at = 16 * j;
-        let x = get_word(scratch, at - 16);
-        put_ref(scratch, at, x);
-        j -= 1;
+        let x = get_word(scratch, at);
+        put_ref(scratch, at + 16, x);
     }
     put_ref(scratch, 16 * i, k);
 }

@@ -25,7 +25,7 @@ const CRATES: [(&str, &[&str]); 10] = [
 ];
 
 /// Counterparts of another name: a refusal for an error, a call over an area or a position for a type.
-const RENAMED: [(&str, &str); 24] = [
+const RENAMED: [(&str, &str); 23] = [
     ("ClockError::RemoteTooFarAhead", "Refusal::RemoteAhead"),
     ("MergeError::BadTimestamp", "Refusal::AheadOfTime"),
     // The first of six, 5 to 10.
@@ -36,7 +36,7 @@ const RENAMED: [(&str, &str); 24] = [
         "Refusal::AuthorOverflow",
     ),
     ("MergeError::PendingBytesExceeded", "Refusal::HeldBytes"),
-    ("Writer", "Written"),
+    ("Writer", "put_varint"),
     ("Writer::u8", "put_u8"),
     ("Writer::varint", "put_varint"),
     ("Writer::bytes", "put_bytes"),
@@ -44,7 +44,6 @@ const RENAMED: [(&str, &str); 24] = [
     ("StampedOperation::signing_bytes", "unsigned_op"),
     ("ReplicatedLog", "check_store"),
     ("Merger", "apply_delta"),
-    ("Envelope", "EnvelopeRead"),
     ("Envelope::encode", "encode_envelope"),
     ("Envelope::decode", "decode_envelope"),
     ("BinaryCodec", "decode_message"),

@@ -2,15 +2,12 @@
 use Rattle.std.specs.Prelude.{ℕ, ◌≤◌, ◌≡◌, List, length}
 use Rattle.words.specs.Sizes.{most_batch}
 use Rattle.words.specs.Names.{Time, Bytes, Position}
-use Rattle.error.specs.Answer.{Answer, done, refused, and_then, got}
-use Rattle.error.specs.declared.Refusal.{Refusal}
-use Rattle.clock.specs.Vector.{outcome_of}
-use Rattle.clock.specs.declared.vector.Outcome.TheVariants.{Done}
+use Rattle.std.specs.declared.result.Result.TheVariants.{Ok, Err}
+use Rattle.error.specs.Answer.{Answer, done, refused, and_then, Got, got}
 use Rattle.row.specs.declared.StampedOperation.{StampedOperation}
-use Rattle.row.specs.declared.Reading.{Reading}
-use Rattle.row.specs.declared.Reading.TheVariants.{Read, Refused}
 use Rattle.row.specs.Values.{row_of, OpFits}
-use Rattle.row.specs.Reading.{Closing, BatchRow}
+use Rattle.row.specs.declared.reader.Closing.{Closing}
+use Rattle.row.specs.Reading.{number, BatchRow}
 use Rattle.merging.specs.Batch.{Limits, whole, read_rows, read_batch, validate, validate_all}
 use Rattle.batch.specs.declared.BatchRead.{BatchRead}
 use Rattle.merging.specs.Inside.RowStarts.{StartsAt}
@@ -34,27 +31,32 @@ pub record Brings (s : Bytes) (l : Limits) (time : Time) (first : Position) (n :
   pub few : n ≤ most_batch
   pub valid_is : valid ≡ validate_all l time rows
 
--- a batch that is refused: no rows, and nothing validated
-abbrev pub no_batch : Refusal → BatchRead
-no_batch f = record { reading = Refused f; rows = 0; valid = Done }
-
 -- so many rows and then nothing, or the refusal
-abbrev pub RowsBy : Reading → Bytes → (first : Position) (n : ℕ) → Limits → Time → BatchRead → Type 0
-RowsBy (Read from) s first n l time r = (from ≡ first) × (r.rows ≡ n) × Brings s l time first n (outcome_of r.valid)
-RowsBy (Refused f) s first n l time r = (whole s (read_rows s first n) ≡ refused f) × (r ≡ no_batch f)
+abbrev pub RowsBy : Answer BatchRead → Bytes → (first : Position) (n : ℕ) → Limits → Time → Type 0
+RowsBy (Ok b) s first n l time = (b.rows ≡ n) × Brings s l time first n b.valid
+RowsBy (Err f) s first n l time = whole s (read_rows s first n) ≡ refused f
 
-pub record ReadsRows (s : Bytes) (first : Position) (n : ℕ) (l : Limits) (time : Time) (r : BatchRead) : Type 0 where
-  pub is : RowsBy r.reading s first n l time r
+pub record ReadsRows (s : Bytes) (first : Position) (n : ℕ) (l : Limits) (time : Time) (r : Answer BatchRead) : Type 0 where
+  pub is : RowsBy r s first n l time
+
+-- the position past a number
+abbrev pub past_number : Got ℕ → Position
+past_number (Ok (n, at)) = at
+past_number (Err r) = 0
+
+-- where the first row of a batch starts: past the count
+abbrev pub first_row : Bytes → Position
+first_row s = past_number (number s 0)
 
 -- the whole batch, or the refusal
-abbrev pub BatchBy : Reading → Bytes → Limits → Time → BatchRead → Type 0
-BatchBy (Read first) s l time r = Brings s l time first r.rows (outcome_of r.valid) × (read_batch s ≡ whole s (read_rows s first r.rows))
-BatchBy (Refused f) s l time r = (read_batch s ≡ refused f) × (r ≡ no_batch f)
+abbrev pub BatchBy : Answer BatchRead → Bytes → Limits → Time → Type 0
+BatchBy (Ok b) s l time = Brings s l time (first_row s) b.rows b.valid × (read_batch s ≡ whole s (read_rows s (first_row s) b.rows))
+BatchBy (Err f) s l time = read_batch s ≡ refused f
 
-pub record ReadsBatch (s : Bytes) (l : Limits) (time : Time) (r : BatchRead) : Type 0 where
-  pub is : BatchBy r.reading s l time r
+pub record ReadsBatch (s : Bytes) (l : Limits) (time : Time) (r : Answer BatchRead) : Type 0 where
+  pub is : BatchBy r s l time
 
--- where the rows of a batch that was read start
-abbrev pub RowsStart : Reading → Bytes → (starts : List Position) (n : ℕ) → Type 0
-RowsStart (Read first) s starts n = StartsAt s starts first n
-RowsStart (Refused f) s starts n = Unit
+-- where the rows of a batch that was read start, the first of them at `first`
+abbrev pub RowsStart : Answer BatchRead → Bytes → (first : Position) (starts : List Position) → Type 0
+RowsStart (Ok b) s first starts = StartsAt s starts first b.rows
+RowsStart (Err f) s first starts = Unit

@@ -1,9 +1,10 @@
-use mathlib.Core.Path.{◌∙◌}
-use Rattle.codec.proofs.ReadSteps.{value_read, value_refused, sender_read, sender_refused}
+use mathlib.Core.Path.{sym, ◌∙◌}
+use Rattle.error.proofs.Exits.{handed_on}
+use Rattle.codec.proofs.ReadSteps.{sender_read, sender_refused}
 use Rattle.codec.proofs.decode_envelope.Goals as goal
 
-pub returns-in-Refused : goal.returns-in-Refused
-returns-in-Refused c = sender_refused _ (value_refused c.get_varint-sender.ensures c.in-Refused.is)
+pub returns-in_err-sender : goal.returns-in_err-sender
+returns-in_err-sender c = handed_on c.from_residual.ensures ∙ sender_refused _ (sym c.in_err-sender.ensures)
 
-pub returns-in-Value : goal.returns-in-Value
-returns-in-Value c = c.decode_parts.ensures ∙ sender_read _ (value_read c.get_varint-sender.ensures c.in-Value.is)
+pub returns : goal.returns
+returns c = c.decode_parts.ensures ∙ sender_read _ (sym c.in_ok-sender.ensures)

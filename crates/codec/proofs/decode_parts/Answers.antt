@@ -1,22 +1,21 @@
-use mathlib.Core.Path.{refl}
+use mathlib.Core.Path.{refl, sym, ◌∙◌}
+use Rattle.error.proofs.Exits.{handed_on}
 use Rattle.codec.specs.Inside.EnvelopeParts.{read_parts}
-use Rattle.codec.proofs.ReadSteps.{on, off, part_read, part_refused, shut, next, halt, finish_done, finish_refused}
+use Rattle.codec.proofs.ReadSteps.{on, off, shut, next, halt}
 use Rattle.codec.proofs.decode_parts.Goals as goal
 
-pub returns-in-Refused : goal.returns-in-Refused
+pub returns-in_err-body : goal.returns-in_err-body
 unfolding read_parts
-returns-in-Refused c = shut _ (off _ (part_refused c.get_bytes-body.ensures c.in-Refused.is)) refl
+returns-in_err-body c = handed_on c.from_residual.ensures ∙ shut _ (off _ (sym c.in_err-body.ensures)) refl
 
-pub returns-in-Refused-sig : goal.returns-in-Refused-sig
+pub returns-in_err-sig : goal.returns-in_err-sig
 unfolding read_parts
-returns-in-Refused-sig c = shut _ (on _ (part_read c.get_bytes-body.ensures c.in-Part.is) (off _ (part_refused c.get_bytes-sig.ensures c.in-Refused-sig.is))) refl
+returns-in_err-sig c = handed_on c.from_residual-in_err-sig.ensures ∙ shut _ (on _ (sym c.in_ok-body.ensures) (off _ (sym c.in_err-sig.ensures))) refl
 
-pub returns-in-Refused-end : goal.returns-in-Refused-end
+pub returns-in_err-finish : goal.returns-in_err-finish
 unfolding read_parts
-returns-in-Refused-end c =
-    shut _ (on _ (part_read c.get_bytes-body.ensures c.in-Part.is) (on _ (part_read c.get_bytes-sig.ensures c.in-Part-sig.is) refl)) (halt _ (finish_refused _ c.finish-end.ensures c.in-Refused-end.is))
+returns-in_err-finish c = handed_on c.from_residual-in_err-finish.ensures ∙ shut _ (on _ (sym c.in_ok-body.ensures) (on _ (sym c.in_ok-sig.ensures) refl)) (halt _ (sym c.in_err-finish.ensures))
 
-pub returns-in-Done : goal.returns-in-Done
+pub returns : goal.returns
 unfolding read_parts
-returns-in-Done c =
-    shut _ (on _ (part_read c.get_bytes-body.ensures c.in-Part.is) (on _ (part_read c.get_bytes-sig.ensures c.in-Part-sig.is) refl)) (next _ (finish_done _ c.finish-end.ensures c.in-Done.is) refl)
+returns c = shut _ (on _ (sym c.in_ok-body.ensures) (on _ (sym c.in_ok-sig.ensures) refl)) (next _ (sym c.in_ok-finish.ensures) refl)

@@ -1,17 +1,18 @@
-use mathlib.Core.Path.{refl}
+use mathlib.Core.Path.{refl, sym, ◌∙◌}
 use native.Mathlib.Omega.{arith}
+use Rattle.error.proofs.Exits.{handed_on}
 use Rattle.codec.specs.Reading.{get_bytes}
-use Rattle.codec.proofs.ReadSteps.{on, off, value_read, value_refused}
+use Rattle.codec.proofs.ReadSteps.{on, off}
 use Rattle.codec.proofs.RoundTrip.{count_inside}
 use Rattle.codec.proofs.get_bytes.Goals as goal
 
+pub returns-in_err-count : goal.returns-in_err-count
+unfolding get_bytes
+returns-in_err-count c = handed_on c.from_residual.ensures ∙ off _ (sym c.in_err-count.ensures)
+
 pub overflow_add-result : goal.overflow_add-result
-overflow_add-result c = omega (arith, count_inside _ _ _ _ _ (value_read c.get_count-read.ensures c.in-Value.is))
+overflow_add-result c = omega (arith, count_inside _ _ _ _ _ (sym c.in_ok-count.ensures))
 
-pub returns-in-Refused : goal.returns-in-Refused
+pub returns : goal.returns
 unfolding get_bytes
-returns-in-Refused c = off _ (value_refused c.get_count-read.ensures c.in-Refused.is)
-
-pub returns-in-Value : goal.returns-in-Value
-unfolding get_bytes
-returns-in-Value c = on _ (value_read c.get_count-read.ensures c.in-Value.is) refl
+returns c = on _ (sym c.in_ok-count.ensures) refl

@@ -1,9 +1,6 @@
-use native.Mathlib.Omega.{arith}
-use lib.Bits.{and_mask, mask_lt}
+use mathlib.Core.Path.{◌∙◌}
+use lib.Bits.{and_mask}
 use Rattle.codec.proofs.group.Goals as goal
 
-pub overflow_cast-result : goal.overflow_cast-result
-overflow_cast-result c = omega (arith, mask_lt c.args.byte 7)
-
 pub returns : goal.returns
-returns c = and_mask c.args.byte 7
+returns c = c.from.ensures ∙ and_mask c.args.byte 7

@@ -3,10 +3,13 @@ use Rattle.std.specs.Prelude.{ℕ, ◌+◌, ◌≤◌, ◌≡◌, length, leb}
 use Rattle.words.specs.Names.{Author, Bytes, Area, Position}
 use Rattle.words.specs.Areas.{put_at}
 use Rattle.error.specs.declared.Refusal.TheVariants.{ShortArea}
+use Rattle.std.specs.declared.result.Result.TheVariants.{Ok, Err}
 use Rattle.error.specs.Answer.{Answer, done, refused, unless, Got, got, bad, after}
 use Rattle.codec.specs.Leb128.{shortest}
-use Rattle.codec.specs.Reading.{Part, get_bytes}
-use Rattle.codec.specs.Envelopes.{Envelope, max_frame, max_signature, closed}
+use Rattle.codec.specs.Reading.{get_bytes}
+use Rattle.codec.specs.declared.Part.{Part}
+use Rattle.codec.specs.Envelopes.{max_frame, max_signature, closed}
+use Rattle.codec.specs.declared.Envelope.{Envelope}
 
 -- where n bytes from `at` on end in an output of len bytes
 unfoldable pub room : (len : ℕ) → Position → (n : ℕ) → Answer Position
@@ -31,17 +34,4 @@ read_parts s sender at =
     closed s
     (after (get_bytes s at max_frame) (λ body at.
     after (get_bytes s at max_signature) (λ sig at.
-    got (record { sender = sender; body = body; sig = sig }) at)))
-
--- a part that was read lies within n bytes
-abbrev pub Within : ℕ → Got Part → Type 0
-Within n (got p next) = p.start + p.len ≤ n
-Within n (bad r) = Unit {0}
-
--- the envelope of four reads, one behind the other: the first refusal, if any
-abbrev pub envelope_by : Got ℕ → (body sig : Got Part) → Answer ℕ → Answer Envelope
-envelope_by (bad r) body sig end = refused r
-envelope_by (got sender x) (bad r) sig end = refused r
-envelope_by (got sender x) (got body y) (bad r) end = refused r
-envelope_by (got sender x) (got body y) (got sig z) (refused r) = refused r
-envelope_by (got sender x) (got body y) (got sig z) (done at) = done (record { sender = sender; body = body; sig = sig })
+    got (record { sender = record { 0 = sender }; body = body; sig = sig }) at)))

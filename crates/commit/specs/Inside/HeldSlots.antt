@@ -6,6 +6,8 @@ use Rattle.words.specs.Choice.{pick}
 use Rattle.words.specs.Be.{get64}
 use Rattle.row.specs.Slots.{slot_at, encode_held}
 use Rattle.row.specs.Reading.{read_row}
+use Rattle.row.specs.declared.Held.{Held}
+use Rattle.row.specs.declared.RowRead.{RowRead}
 use Rattle.working.specs.Inside.References.{entry_size, is_read, arrived_by}
 
 -- the i-th working reference
@@ -18,6 +20,10 @@ pub record SlotSet (s t : Area) (p : ℕ) (vs : Bytes) : Type 0 where
   pub here : slot_at t (slot_size * p) ≡ vs
   pub else : (q : ℕ) → (q ≡ p → ⊥) → slot_at t (slot_size * q) ≡ slot_at s (slot_size * q)
   pub behind : drop held_size t ≡ drop held_size s
+
+-- a row of a batch as it waits, which arrived then
+abbrev pub arriving : RowRead → Time → Held
+arriving row time = record { op = row.op; arrived_ms = time; outcome = row.outcome; detail = row.detail }
 
 -- references to held slots rise
 pub record SlotsRise (s : Area) (n : ℕ) : Type 0 where

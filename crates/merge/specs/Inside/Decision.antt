@@ -6,6 +6,7 @@ use Rattle.words.specs.Be.{be64, column}
 use Rattle.words.specs.Areas.{put_at}
 use Rattle.error.specs.declared.Refusal.{Refusal}
 use Rattle.error.specs.declared.Refusal.TheVariants.{ShortArea}
+use Rattle.std.specs.declared.result.Result.TheVariants.{Ok, Err}
 use Rattle.error.specs.Answer.{Answer, done, refused, and_then, unless, got, nothing}
 use Rattle.clock.specs.Vector.{entries, sound}
 use Rattle.clock.specs.Area.{clock_at}
@@ -13,7 +14,7 @@ use Rattle.row.specs.Slots.{slot_at, slot_ok, slots_at}
 use Rattle.row.specs.Reading.{BatchRow}
 use Rattle.replicated_log.specs.Store.{Store}
 use Rattle.replicated_log.specs.Areas.{Areas, capacity, read_store, rows_of, floor_at, held_bytes}
-use Rattle.replicated_log.specs.Answers.{unit_of}
+use Rattle.replicated_log.specs.Inside.Units.{unit_of}
 use Rattle.replicated_log.specs.Inside.StoreTests.{HeadOk}
 use Rattle.replicated_log.specs.Inside.StoreChanges.{Stored, Sound, AllReady}
 use Rattle.merging.specs.Batch.{Limits, limits_ok, read_rows, read_batch, validate_all}
@@ -27,11 +28,8 @@ use Rattle.commit.specs.declared.Fates.{Fates}
 use Rattle.commit.specs.Inside.HeldSlots.{SlotsRise}
 use Rattle.commit.specs.Inside.Logging.{AllLogged}
 use Rattle.merge.specs.declared.deciding.Prepared.{Prepared}
-use Rattle.merge.specs.declared.deciding.Prepared.TheVariants as prepared
 use Rattle.merge.specs.declared.deciding.Settled.{Settled}
-use Rattle.merge.specs.declared.deciding.Settled.TheVariants as settled
 use Rattle.merge.specs.declared.deciding.Decision.{Decision}
-use Rattle.merge.specs.declared.deciding.Decision.TheVariants as decision
 use Rattle.words.specs.Lists.{count_if}
 use Rattle.replicated_log.specs.Insertion.{insert_all, fits}
 use Rattle.merging.specs.Inside.RowStarts.{StartsAt}
@@ -59,11 +57,21 @@ brought cap l time s batch scratch output =
     unless (room_for (length s.held + length rows) scratch output) ShortArea
     (merge cap l time s rows))
 
-pub data TakesIn (l : Limits) (time : Time) (held : ℕ) (batch : Bytes) (scratch output : Area) (starts : List Position) : Prepared → Type 0 where
-  is_ready : {n : ℕ} (first : Position) → Taken l time batch first n → StartsAt batch starts first n → room_for (held + n) scratch output ≡ true
-      → TakesIn l time held batch scratch output starts (prepared.Ready n held)
-  is_refused : {r : Refusal} → ((cap : ℕ) (s : Store) → length s.held ≡ held → brought cap l time s batch scratch output ≡ refused r)
-      → TakesIn l time held batch scratch output starts (prepared.Refused r)
+-- the same, where its rows start, and that there is room for them beside so many held rows
+pub record TakenIn (l : Limits) (time : Time) (held : ℕ) (batch : Bytes) (scratch output : Area) (starts : List Position) (p : Prepared) : Type 0 where
+  pub held_is : p.held ≡ held
+  pub first : Position
+  pub taken : Taken l time batch first p.rows
+  pub starts_are : StartsAt batch starts first p.rows
+  pub room : room_for (p.held + p.rows) scratch output ≡ true
+
+-- a batch that is refused, on whatever store has so many held rows
+abbrev pub NotTaken : Limits → Time → (held : ℕ) (batch : Bytes) (scratch output : Area) → Refusal → Type 0
+NotTaken l time held batch scratch output r = (cap : ℕ) (s : Store) → length s.held ≡ held → brought cap l time s batch scratch output ≡ refused r
+
+abbrev pub TakesIn : Limits → Time → (held : ℕ) (batch : Bytes) (scratch output : Area) (starts : List Position) → Answer Prepared → Type 0
+TakesIn l time held batch scratch output starts (Ok p) = TakenIn l time held batch scratch output starts p
+TakesIn l time held batch scratch output starts (Err r) = NotTaken l time held batch scratch output r
 
 -- settings within capacity, a sound store with so many held rows, and a batch that was read, with room in scratch
 pub record Opened (a : Areas) (l : Limits) (time : Time) (batch : Bytes) (scratch : Area) (starts : List Position) (n count : ℕ) : Type 0 where
@@ -77,10 +85,10 @@ pub record Opened (a : Areas) (l : Limits) (time : Time) (batch : Bytes) (scratc
   pub starts_room : n ≤ length starts
   pub room : slot_size * (count + n) ≤ length scratch
 
-pub data Prepares (a : Areas) (l : Limits) (time : Time) (batch : Bytes) (scratch output : Area) (starts : List Position) : Prepared → Type 0 where
-  is_ready : {n count : ℕ} → Opened a l time batch scratch starts n count → room_for (count + n) scratch output ≡ true
-      → Prepares a l time batch scratch output starts (prepared.Ready n count)
-  is_refused : {r : Refusal} → batch_answer a (call_of l time batch scratch output) ≡ refused r → Prepares a l time batch scratch output starts (prepared.Refused r)
+abbrev pub Prepares : Areas → Limits → Time → (batch : Bytes) (scratch output : Area) (starts : List Position) → Answer Prepared → Type 0
+Prepares a l time batch scratch output starts (Ok p) =
+    Opened a l time batch scratch starts p.rows p.held × (room_for (p.held + p.rows) scratch output ≡ true)
+Prepares a l time batch scratch output starts (Err r) = batch_answer a (call_of l time batch scratch output) ≡ refused r
 
 -- ---- steps 1 to 3
 
@@ -100,27 +108,25 @@ pub record Refers (held : Area) (batch : Bytes) (time : Time) (t : Area) (waitin
   pub waiting_refs : refs_ok held batch (column t 0 waiting) ≡ true
   pub logged_refs : refs_ok held batch (column t word_size logged) ≡ true
 
-pub record SettledRows (held : Area) (batch : Bytes) (head : Area) (time : Time) (t : Area) (count : ℕ) (cutoff : Time) (rows : List BatchRow) (waiting logged expired duplicates dropped authors : ℕ) : Type 0 where
+pub record SettledRows (held : Area) (batch : Bytes) (head : Area) (time : Time) (t : Area) (count : ℕ) (cutoff : Time) (rows : List BatchRow) (s : Settled) : Type 0 where
   pub admitted : Admitted
   pub admits : admit_all (entries (clock_at head head_clock)) time (starting (unexpired cutoff (slots_at held 0 count))) rows ≡ done admitted
   pub drained : Drained
   pub is : drained ≡ drain (length admitted.working) (record { clock = entries (clock_at head head_clock); waiting = admitted.working; logged = []; dropped = 0 })
-  pub refers : Refers held batch time t waiting logged drained
-  pub expired_is : expired ≡ count - length (unexpired cutoff (slots_at held 0 count))
-  pub duplicates_are : duplicates ≡ admitted.duplicates
-  pub dropped_is : dropped ≡ drained.dropped
-  pub authors_are : authors ≡ length drained.clock
-  pub total : waiting + logged ≤ count + length rows
+  pub refers : Refers held batch time t s.waiting s.logged drained
+  pub expired_is : s.expired ≡ count - length (unexpired cutoff (slots_at held 0 count))
+  pub duplicates_are : s.duplicates ≡ admitted.duplicates
+  pub dropped_is : s.dropped ≡ drained.dropped
+  pub authors_are : s.authors ≡ length drained.clock
+  pub total : s.waiting + s.logged ≤ count + length rows
 
-pub data Settles (held : Area) (batch : Bytes) (head t : Area) (count : ℕ) (cutoff : Time) (starts : List Position) (n : ℕ) : Settled → Type 0 where
-  are_rows : {waiting logged expired duplicates dropped authors : ℕ}
-      → ((time : Time) (first : Position) (rows : List BatchRow) (end : Position) → StartsAt batch starts first n → read_rows batch first n ≡ got rows end
-      → SettledRows held batch head time t count cutoff rows waiting logged expired duplicates dropped authors)
-      → Settles held batch head t count cutoff starts n (settled.Rows waiting logged expired duplicates dropped authors)
-  is_refused : {r : Refusal}
-      → ((time : Time) (first : Position) (rows : List BatchRow) (end : Position) → StartsAt batch starts first n → read_rows batch first n ≡ got rows end
-      → admit_all (entries (clock_at head head_clock)) time (starting (unexpired cutoff (slots_at held 0 count))) rows ≡ refused r)
-      → Settles held batch head t count cutoff starts n (settled.Refused r)
+abbrev pub Settles : (held : Area) (batch : Bytes) (head t : Area) (count : ℕ) (cutoff : Time) (starts : List Position) (n : ℕ) → Answer Settled → Type 0
+Settles held batch head t count cutoff starts n (Ok s) =
+    (time : Time) (first : Position) (rows : List BatchRow) (end : Position) → StartsAt batch starts first n → read_rows batch first n ≡ got rows end
+    → SettledRows held batch head time t count cutoff rows s
+Settles held batch head t count cutoff starts n (Err r) =
+    (time : Time) (first : Position) (rows : List BatchRow) (end : Position) → StartsAt batch starts first n → read_rows batch first n ≡ got rows end
+    → admit_all (entries (clock_at head head_clock)) time (starting (unexpired cutoff (slots_at held 0 count))) rows ≡ refused r
 
 -- ---- 14 to 18
 
@@ -141,7 +147,7 @@ pub record Judged (log held : Area) (batch : Bytes) (head t : Area) (l : Limits)
 -- ---- the decision
 
 -- a merge that is accepted, with references to its rows in t
-pub record Accepts (a : Areas) (l : Limits) (time : Time) (batch : Bytes) (t : Area) (waiting logged expired duplicates dropped : ℕ) : Type 0 where
+pub record Accepts (a : Areas) (l : Limits) (time : Time) (batch : Bytes) (t : Area) (d : Decision) : Type 0 where
   pub store : Store
   pub rows : List BatchRow
   pub drained : Drained
@@ -156,29 +162,36 @@ pub record Accepts (a : Areas) (l : Limits) (time : Time) (batch : Bytes) (t : A
         applied = count_if (λ h. eqb (fate store.floor h) 0) drained.logged;
         stale = count_if (λ h. eqb (fate store.floor h) 1) drained.logged;
         rejected = count_if (λ h. ltb 1 (fate store.floor h)) drained.logged;
-        duplicates = duplicates;
-        held = waiting;
-        expired = expired;
-        dropped = dropped;
+        duplicates = d.duplicates;
+        held = d.waiting;
+        expired = d.expired;
+        dropped = d.dropped;
       }
   pub within : Fits (capacity a.log) (commit store drained)
-  pub refers : Refers a.held batch time t waiting logged drained
-  pub rise : SlotsRise t waiting
-  pub few : waiting ≤ most_held
-  pub total : waiting + logged ≤ length store.held + length rows
+  pub refers : Refers a.held batch time t d.waiting d.logged drained
+  pub rise : SlotsRise t d.waiting
+  pub few : d.waiting ≤ most_held
+  pub total : d.waiting + d.logged ≤ length store.held + length rows
   pub rows_few : length rows ≤ most_batch
 
-pub data Merges (a : Areas) (l : Limits) (time : Time) (batch : Bytes) (t : Area) : Decision → Type 0 where
-  is_accepted_lem : {waiting logged expired duplicates dropped : ℕ} → Accepts a l time batch t waiting logged expired duplicates dropped
-      → Merges a l time batch t (decision.Accepted waiting logged expired duplicates dropped)
-  is_refused : {r : Refusal} (s : Store) (rows : List BatchRow) → read_store a ≡ done s → read_batch batch ≡ done rows
-      → merge (capacity a.log) l time s rows ≡ refused r → Merges a l time batch t (decision.Refused r)
+-- a merge that is refused
+abbrev pub NotMerged : Areas → Limits → Time → (batch : Bytes) → Refusal → Type 0
+NotMerged a l time batch r =
+    (s : Store) × (rows : List BatchRow) × (read_store a ≡ done s) × (read_batch batch ≡ done rows) × (merge (capacity a.log) l time s rows ≡ refused r)
 
-pub data Decides (a : Areas) (l : Limits) (time : Time) (batch : Bytes) (scratch output t : Area) : Decision → Type 0 where
-  is_accepted_lem : {waiting logged expired duplicates dropped : ℕ} (m : Accepts a l time batch t waiting logged expired duplicates dropped)
-      → batch_answer a (call_of l time batch scratch output) ≡ done m.merged → room_for (length m.store.held + length m.rows) scratch output ≡ true
-      → Decides a l time batch scratch output t (decision.Accepted waiting logged expired duplicates dropped)
-  is_refused : {r : Refusal} → batch_answer a (call_of l time batch scratch output) ≡ refused r → Decides a l time batch scratch output t (decision.Refused r)
+abbrev pub Merges : Areas → Limits → Time → (batch : Bytes) (t : Area) → Answer Decision → Type 0
+Merges a l time batch t (Ok d) = Accepts a l time batch t d
+Merges a l time batch t (Err r) = NotMerged a l time batch r
+
+-- a batch that is accepted
+pub record Accepted (a : Areas) (l : Limits) (time : Time) (batch : Bytes) (scratch output t : Area) (d : Decision) : Type 0 where
+  pub accepts : Accepts a l time batch t d
+  pub answer : batch_answer a (call_of l time batch scratch output) ≡ done accepts.merged
+  pub room : room_for (length accepts.store.held + length accepts.rows) scratch output ≡ true
+
+abbrev pub Decides : Areas → Limits → Time → (batch : Bytes) (scratch output t : Area) → Answer Decision → Type 0
+Decides a l time batch scratch output t (Ok d) = Accepted a l time batch scratch output t d
+Decides a l time batch scratch output t (Err r) = batch_answer a (call_of l time batch scratch output) ≡ refused r
 
 -- ---- where the rows of an accepted batch start
 
@@ -198,12 +211,8 @@ pub record RowsBegin (batch : Bytes) (starts : List Position) : Type 0 where
   pub room : length rows ≤ length starts
 
 abbrev pub StartsKnown : {A : Type 0} → Answer A → Bytes → (starts : List Position) → Type 0
-StartsKnown (done x) batch starts = RowsBegin batch starts
-StartsKnown (refused r) batch starts = Unit
-
-abbrev pub decided_of : Decision → Answer Unit
-decided_of (decision.Accepted waiting logged expired duplicates dropped) = done nothing
-decided_of (decision.Refused r) = refused r
+StartsKnown (Ok x) batch starts = RowsBegin batch starts
+StartsKnown (Err r) batch starts = Unit
 
 -- ---- what is written
 

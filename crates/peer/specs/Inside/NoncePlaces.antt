@@ -1,14 +1,8 @@
--- How the code reaches a nonce, by its place, and puts lists of nonces into a record. Inside: need not be believed.
-use Rattle.std.specs.Prelude.{ℕ, suc, ◌+◌, List, [], ◌∷◌, ◌++◌, take, drop, eqb}
+-- How the code takes a nonce out by its place, and puts lists of nonces into a record. Inside: need not be believed.
+use Rattle.std.specs.Prelude.{ℕ, ◌+◌, List, ◌++◌, take, drop}
 use Rattle.words.specs.Names.{Time}
-use Rattle.words.specs.Choice.{pick}
 use Rattle.peer.specs.declared.Pings.{Pings}
 use Rattle.peer.specs.declared.Peer.{Peer}
-
--- where n first stands, the length where it is absent
-unfoldable pub place : ℕ → List ℕ → ℕ
-place n [] = 0
-place n (m ∷ ms) = pick (eqb m n) 0 (suc (place n ms))
 
 -- all but the nonce at i
 unfoldable pub without : ℕ → List ℕ → List ℕ

@@ -6,7 +6,7 @@ use Rattle.error.specs.Answer.{Answer}
 use Rattle.row.specs.Rows.{Row}
 use Rattle.replicated_log.specs.Store.{Store}
 use Rattle.replicated_log.specs.Areas.{capacity, rows_of}
-use Rattle.replicated_log.specs.Answers.{unit_of}
+use Rattle.replicated_log.specs.Inside.Units.{unit_of}
 use Rattle.replicated_log.specs.Inside.StoreChanges.{Stored}
 use Rattle.working.specs.Inside.References.{work_rows}
 use Rattle.words.specs.Be.{column}

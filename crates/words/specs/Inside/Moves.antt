@@ -1,6 +1,6 @@
 -- What the functions that move and test blocks of an area promise. Inside: need not be believed.
-use Rattle.std.specs.Prelude.{ℕ, ◌+◌, ◌-◌, ◌*◌, ◌^◌, ◌≤◌, ◌<◌, ◌≡◌, List, ◌++◌, take, drop, get_or}
-use Rattle.words.specs.Names.{Bytes, Area, Position}
+use Rattle.std.specs.Prelude.{ℕ, ◌+◌, ◌-◌, ◌≤◌, ◌<◌, ◌≡◌, List, ◌++◌, take, drop, get_or}
+use Rattle.words.specs.Names.{Area, Position}
 
 -- every element from `from` up to `to` is zero
 abbrev pub ZeroIn : List ℕ → ℕ → ℕ → Type 0
@@ -13,7 +13,3 @@ moved_up from to by s = take (from + by) s ++ (take (to - from) (drop from s) ++
 -- s with the elements from `from` up to `to` moved down by `by`: what lies from to - by on stays
 unfoldable pub moved_down : (from to by : Position) → Area → Area
 moved_down from to by s = take (from - by) s ++ (take (to - from) (drop from s) ++ drop (to - by) s)
-
--- the number that the four bytes from `at` on stand for
-unfoldable pub get32 : Bytes → Position → ℕ
-get32 s at = get_or s at 0 * 2 ^ 24 + get_or s (at + 1) 0 * 2 ^ 16 + get_or s (at + 2) 0 * 2 ^ 8 + get_or s (at + 3) 0

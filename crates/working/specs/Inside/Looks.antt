@@ -1,5 +1,5 @@
 -- What a look at the row of a reference finds. Inside: need not be believed.
-use Rattle.std.specs.Prelude.{ℕ, suc, ◌≡◌, Bool, ◌&&◌, List, [], ◌∷◌, ◌++◌, eqb}
+use Rattle.std.specs.Prelude.{ℕ, suc, ◌≡◌, Bool, ◌&&◌, Option, Some, None, List, [], ◌∷◌, ◌++◌, eqb}
 use Rattle.words.specs.Names.{Author, Seq, Bytes, Area, Position, Clock}
 use Rattle.clock.specs.Order.{less, stamp_key}
 use Rattle.row.specs.Rows.{Row, work_key}
@@ -7,8 +7,6 @@ use Rattle.row.specs.Reading.{read_row}
 use Rattle.merging.specs.Merging.{ready}
 use Rattle.working.specs.Inside.References.{work_row, arrived_by}
 use Rattle.working.specs.declared.looks.Key.{Key}
-use Rattle.working.specs.declared.looks.Found.{Found}
-use Rattle.working.specs.declared.looks.Found.TheVariants.{At, Nothing}
 use Rattle.words.specs.Choice.{pick}
 
 -- the row of a reference: that does not depend on when it arrived
@@ -39,16 +37,16 @@ unfoldable pub before_ref : Key → (held : Area) (batch : Bytes) (k : ℕ) → 
 before_ref key held batch k = less (numbers_of key) (work_key (ref_row held batch k))
 
 -- the same place, one further on
-unfoldable pub later : Found → Found
-later (At i) = At (suc i)
-later Nothing = Nothing
+unfoldable pub later : Option ℕ → Option ℕ
+later (Some i) = Some (suc i)
+later None = None
 
 -- the place of the first reference that p is true of
-unfoldable pub first_where : (ℕ → Bool) → List ℕ → Found
-first_where p [] = Nothing
-first_where p (k ∷ ks) = pick (p k) (At 0) (later (first_where p ks))
+unfoldable pub first_where : (ℕ → Bool) → List ℕ → Option ℕ
+first_where p [] = None
+first_where p (k ∷ ks) = pick (p k) (Some 0) (later (first_where p ks))
 
 -- that place, or the end
-unfoldable pub place_in : (n : ℕ) → Found → ℕ
-place_in n (At i) = i
-place_in n Nothing = n
+unfoldable pub place_in : (n : ℕ) → Option ℕ → ℕ
+place_in n (Some i) = i
+place_in n None = n

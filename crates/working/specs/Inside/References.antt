@@ -4,7 +4,8 @@ use Rattle.std.specs.Prelude.{ℕ, ◌-◌, ◌*◌, Bool, true, false, List, []
 use Rattle.words.specs.Sizes.{word_size, most_held, slot_size}
 use Rattle.words.specs.Names.{Time, Bytes, Area}
 use Rattle.words.specs.Choice.{pick}
-use Rattle.error.specs.Answer.{Got, got, bad}
+use Rattle.std.specs.declared.result.Result.TheVariants.{Ok, Err}
+use Rattle.error.specs.Answer.{Got}
 use Rattle.row.specs.Rows.{HeldRow}
 use Rattle.row.specs.Slots.{slot_at, slot_ok, decode_held}
 use Rattle.row.specs.Reading.{BatchRow, read_row}
@@ -16,13 +17,13 @@ entry_size = 2 * word_size
 
 -- something was read
 abbrev pub is_read : {A : Type 0} → Got A → Bool
-is_read (got a n) = true
-is_read (bad r) = false
+is_read (Ok (a, n)) = true
+is_read (Err r) = false
 
 -- a batch row as it arrives now; what is not read stands for nothing
 abbrev pub arrived_by : Time → Got BatchRow → HeldRow
-arrived_by time (got b n) = arrived time b
-arrived_by time (bad r) = decode_held []
+arrived_by time (Ok (b, n)) = arrived time b
+arrived_by time (Err r) = decode_held []
 
 -- a row stands where the reference says
 unfoldable pub ref_ok : (held : Area) (batch : Bytes) (k : ℕ) → Bool

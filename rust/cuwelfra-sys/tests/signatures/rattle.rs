@@ -7,7 +7,7 @@ use crate::tokens::{Cursor, Token};
 /// Parameters that have another name in Rattle, where `peer` is a crate and `now` belongs to contracts.
 const PARAMETERS: [(&str, &str); 2] = [("area", "peer"), ("ms", "now")];
 
-/// Structs whose name is taken in Rattle by the answer of the crate below.
+/// Structs that have another name in Rattle.
 const STRUCTS: [(&str, &str); 8] = [
     ("NumberTold", "NumberRead"),
     ("PartTold", "PartRead"),

@@ -1,10 +1,9 @@
-use mathlib.Core.Path.{ap}
-use Rattle.clock.specs.Vector.{outcome_of}
+use Rattle.error.proofs.Exits.{handed_on}
 use Rattle.batch.proofs.Validation.{goes_refused, goes_done}
 use Rattle.batch.proofs.limits.validated.Goals as goal
 
-pub returns-in-Refused : goal.returns-in-Refused
-returns-in-Refused c = goes_refused (ap outcome_of c.in-Refused.is)
+pub returns-in_err-before : goal.returns-in_err-before
+returns-in_err-before c = rw (handed_on c.from_residual.ensures) (goes_refused c.in_err-before.was)
 
-pub returns-in-Done : goal.returns-in-Done
-returns-in-Done c = goes_done (ap outcome_of c.in-Done.is) c.validate.ensures
+pub returns : goal.returns
+returns c = goes_done c.in_ok-before.was c.validate.ensures

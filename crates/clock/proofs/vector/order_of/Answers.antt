@@ -1,18 +1,18 @@
 use Rattle.clock.specs.Vector.{order_of}
 use Rattle.clock.proofs.vector.order_of.Goals as goal
 
-pub returns-then-under : goal.returns-then-under
+pub returns-in-true-true : goal.returns-in-true-true
 unfolding order_of
-returns-then-under c = rw (c.if-over.true, c.if-under.true)
+returns-in-true-true c = let at = c.in-true-true in rw (at.is-0, at.is-1)
 
-pub returns-then-over : goal.returns-then-over
+pub returns-in-true-false : goal.returns-in-true-false
 unfolding order_of
-returns-then-over c = rw (c.if-over.true, c.if-under.false)
+returns-in-true-false c = let at = c.in-true-false in rw (at.is-0, at.is-1)
 
-pub returns-then-under-2 : goal.returns-then-under-2
+pub returns-in-false-true : goal.returns-in-false-true
 unfolding order_of
-returns-then-under-2 c = rw (c.if-over.false, c.if-under-2.true)
+returns-in-false-true c = let at = c.in-false-true in rw (at.is-0, at.is-1)
 
-pub returns : goal.returns
+pub returns-in-false-false : goal.returns-in-false-false
 unfolding order_of
-returns c = rw (c.if-over.false, c.if-under-2.false)
+returns-in-false-false c = let at = c.in-false-false in rw (at.is-0, at.is-1)

@@ -4,13 +4,13 @@ use Rattle.clock.proofs.ClockRules.{rises_start, rises_turn, rises_not, rises_en
 use Rattle.clock.proofs.vector.rises.Goals as goal
 
 pub loop-i-init : goal.loop-i-init
-loop-i-init c = (search rules, rises_start _ _ c.requires)
+loop-i-init c = rises_start _
 
-pub returns-then-b-a : goal.returns-then-b-a
-returns-then-b-a c = rises_not c.args.authors.now c.args.n c.loop-i.i (search rules) (search rules) c.loop-i.invariant.1 (omega arith)
+pub returns-then-authors-i : goal.returns-then-authors-i
+returns-then-authors-i c = rises_not c.args.authors.now c.loop-i.i (search rules) c.loop-i.invariant (omega arith)
 
 pub loop-i-preserved : goal.loop-i-preserved
-loop-i-preserved c = (search rules, rises_turn c.args.authors.now c.args.n c.loop-i.i (search rules) (search rules) c.loop-i.invariant.1 (omega arith))
+loop-i-preserved c = rises_turn c.args.authors.now c.loop-i.i (search rules) c.loop-i.invariant (omega arith)
 
 pub returns : goal.returns
-returns c = rises_end c.args.authors.now c.args.n c.loop-i.i (omega arith) c.loop-i.invariant.1
+returns c = rises_end c.args.authors.now c.loop-i.i (omega arith) c.loop-i.invariant

@@ -1,9 +1,5 @@
 use Rattle.commit.proofs.HeldSlots.{Gathering}
-use Prim.Native.Nat.{◌-◌}
 use Rattle.commit.proofs.holding.gather.Given as goal
 
 abbrev pub invariant-loop-p : goal.invariant-loop-p
 invariant-loop-p l = Gathering l.initial.held l.held l.scratch l.n l.kept l.p
-
-abbrev pub decreases-loop-p : goal.decreases-loop-p
-decreases-loop-p l = l.n - l.p

@@ -10,7 +10,7 @@ overflow_sub-left c = spread_left _ _ _ _ _ _ _ _ _ c.get_word-k.ensures c.loop-
 
 pub loop-p-preserved-then-k-lt64 : goal.loop-p-preserved-then-k-lt64
 loop-p-preserved-then-k-lt64 c =
-    spread_held _ _ _ _ _ _ _ _ _ c.get_word-k.ensures c.loop-p-test.true c.loop-p.invariant _ c.if-k-lt64.true c.slot_up.ensures
+    spread_held _ _ _ _ _ _ _ _ _ c.get_word-k.ensures c.loop-p-test.true c.loop-p.invariant _ c.if-k-lt64.true c.copy_slot.ensures
 
 pub slot_from_batch-requires : goal.slot_from_batch-requires
 slot_from_batch-requires c = (spread_read _ _ _ _ _ _ _ _ _ c.get_word-k.ensures c.loop-p-test.true c.loop-p.invariant c.requires.4 c.if-k-lt64.false, omega arith, omega arith)

@@ -3,6 +3,3 @@ use Rattle.commit.proofs.holding.spread.Given as goal
 
 abbrev pub invariant-loop-p : goal.invariant-loop-p
 invariant-loop-p l = Spreading l.initial.held l.held l.batch l.scratch l.n l.time l.left l.p
-
-abbrev pub decreases-loop-p : goal.decreases-loop-p
-decreases-loop-p l = l.p

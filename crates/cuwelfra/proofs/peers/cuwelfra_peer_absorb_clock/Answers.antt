@@ -1,27 +1,25 @@
-use mathlib.Core.Path.{◌∙◌, ap, sym}
-use native.Mathlib.Omega.{arith}
-use borrow.Author.Tests.{not-true, not-false}
+use Rattle.std.proofs.Common.{arith}
 use Rattle.cuwelfra.specs.Peers.{absorb_area}
-use Rattle.cuwelfra.proofs.PeerLaws.{long_both, short_own, short_clock, lent_short, lent_stateless, lent_kept}
-use Rattle.std.proofs.Common.{not}
+use Rattle.peer.specs.Peers.{absorb_call}
+use Rattle.peer.specs.declared.Peer.{Peer}
+use Rattle.clock.specs.Area.{clock_at}
+use Rattle.cuwelfra.proofs.PeerLaws.{record_long, lent_refused, lent_kept, long_both, short_clock}
 use Rattle.cuwelfra.proofs.peers.cuwelfra_peer_absorb_clock.Goals as goal
-
-pub returns-then-area-lt704 : goal.returns-then-area-lt704
-unfolding absorb_area
-returns-then-area-lt704 c = lent_short _ _ _ _ (short_own c.args.area.now c.args.clock.now (omega arith)) c.tell.ensures
 
 pub returns-then-clock-lt520 : goal.returns-then-clock-lt520
 unfolding absorb_area
-returns-then-clock-lt520 c = lent_short _ _ _ _ (short_clock c.args.area.now c.args.clock.now (omega arith) (omega arith)) c.tell-then-clock-lt520.ensures
+returns-then-clock-lt520 c = short_clock _ _ _ _ (omega arith) c.tell.ensures
 
-pub returns-then-not-is_state : goal.returns-then-not-is_state
-unfolding absorb_area
-returns-then-not-is_state c =
-    let args = c.args in
-    lent_stateless _ _ _ _ (long_both args.area.now args.clock.now (omega arith) (omega arith)) (sym c.is_state.ensures ∙ not-true _ (ap not c.if-not-is_state.true)) c.tell-then-not-is_state.ensures
+pub keep_peer-requires : goal.keep_peer-requires
+keep_peer-requires c = record_long _ _ c.in-Ok.ensures
 
-pub returns : goal.returns
+pub returns-in-Ok : goal.returns-in-Ok
 unfolding absorb_area
-returns c =
+returns-in-Ok c =
     let args = c.args in
-    lent_kept _ _ _ _ _ _ (long_both args.area.now args.clock.now (omega arith) (omega arith)) (sym c.is_state.ensures ∙ not-false _ (ap not c.if-not-is_state.false)) (rw (c.load_peer.ensures, c.load_clock-theirs.ensures) at c.absorb_clock-changed.ensures) c.keep_peer.ensures
+    rw (long_both args.area.now args.clock.now (omega arith))
+    (lent_kept _ _ c.in-Ok.ensures (λ (p : Peer). absorb_call p (clock_at args.clock.now 0)) _ (rw c.load_clock.ensures at c.absorb_clock.ensures) _ _ c.keep_peer.ensures)
+
+pub returns-in-Err : goal.returns-in-Err
+unfolding absorb_area
+returns-in-Err c = rw (long_both c.args.area.now c.args.clock.now (omega arith)) (lent_refused _ _ _ c.in-Err.ensures c.tell-in-Err.ensures _)

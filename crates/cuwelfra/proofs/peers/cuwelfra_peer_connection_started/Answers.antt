@@ -1,20 +1,16 @@
-use mathlib.Core.Path.{◌∙◌, ap, sym}
-use native.Mathlib.Omega.{arith}
-use borrow.Author.Tests.{not-true, not-false}
 use Rattle.cuwelfra.specs.Peers.{started_area}
-use Rattle.cuwelfra.proofs.PeerLaws.{long_peer_lem, short_peer, lent_short, lent_stateless, lent_kept}
-use Rattle.std.proofs.Common.{not}
+use Rattle.peer.specs.Peers.{started_call}
+use Rattle.peer.specs.declared.Peer.{Peer}
+use Rattle.cuwelfra.proofs.PeerLaws.{record_long, lent_refused, lent_kept}
 use Rattle.cuwelfra.proofs.peers.cuwelfra_peer_connection_started.Goals as goal
 
-pub returns-then-area-lt704 : goal.returns-then-area-lt704
-unfolding started_area
-returns-then-area-lt704 c = lent_short _ _ _ _ (short_peer c.args.area.now (omega arith)) c.tell.ensures
+pub keep_peer-requires : goal.keep_peer-requires
+keep_peer-requires c = record_long _ _ c.in-Ok.ensures
 
-pub returns-then-not-is_state : goal.returns-then-not-is_state
+pub returns-in-Ok : goal.returns-in-Ok
 unfolding started_area
-returns-then-not-is_state c = lent_stateless _ _ _ _ (long_peer_lem c.args.area.now (omega arith)) (sym c.is_state.ensures ∙ not-true _ (ap not c.if-not-is_state.true)) c.tell-then-not-is_state.ensures
+returns-in-Ok c = lent_kept _ _ c.in-Ok.ensures (λ (p : Peer). started_call p c.args.ms) _ c.connection_started.ensures _ _ c.keep_peer.ensures
 
-pub returns : goal.returns
+pub returns-in-Err : goal.returns-in-Err
 unfolding started_area
-returns c =
-    lent_kept _ _ _ _ _ _ (long_peer_lem c.args.area.now (omega arith)) (sym c.is_state.ensures ∙ not-false _ (ap not c.if-not-is_state.false)) (rw c.load_peer.ensures at c.connection_started-changed.ensures) c.keep_peer.ensures
+returns-in-Err c = lent_refused _ _ _ c.in-Err.ensures c.tell.ensures _

@@ -1,5 +1,4 @@
-use mathlib.Core.Path.{◌∙◌, ap}
-use native.Mathlib.Omega.{arith}
+use Rattle.std.proofs.Common.{◌∙◌, ap, arith}
 use Rattle.cuwelfra.specs.Vectors.{get_area, count_told}
 use Rattle.cuwelfra.proofs.VectorLaws.{is_long, is_short}
 use Rattle.cuwelfra.proofs.vector.cuwelfra_clock_get.Goals as goal

@@ -1,4 +1,5 @@
 use native.Mathlib.Omega.{arith}
+use Rattle.error.specs.Answer.{told_by}
 use Rattle.cuwelfra.specs.Vectors.{merge_area}
 use Rattle.cuwelfra.proofs.VectorLaws.{both_long, own_short, other_short, short_kept, long_kept}
 use Rattle.cuwelfra.proofs.vector.cuwelfra_clock_merge.Goals as goal
@@ -15,4 +16,4 @@ pub returns : goal.returns
 unfolding merge_area
 returns c =
     let args = c.args in
-    long_kept _ _ _ _ _ _ (both_long args.clock.now args.other.now (omega arith) (omega arith)) (rw (c.load_clock.ensures, c.load_clock-theirs.ensures) at c.merge-changed.ensures.ended) c.keep.ensures
+    long_kept told_by _ _ _ _ _ _ _ (both_long args.clock.now args.other.now (omega arith) (omega arith)) (rw (c.load_clock-own.ensures, c.load_clock-theirs.ensures) at c.merge-answer.ensures.ended) c.keep.ensures c.outcome_told.ensures

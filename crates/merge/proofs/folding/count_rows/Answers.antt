@@ -1,9 +1,9 @@
-use Rattle.row.proofs.ReadSteps.{num, no_num}
+use mathlib.Core.Path.{sym, ◌∙◌}
 use Rattle.merge.proofs.FoldLoop.{has_count, stamps_count}
 use Rattle.merge.proofs.folding.count_rows.Goals as goal
 
-pub returns-in_default : goal.returns-in_default
-returns-in_default c = absurd (has_count _ c.requires _ (no_num _ _ c.get_varint.ensures c.in_default.is))
+pub unwrap-count-requires : goal.unwrap-count-requires
+unwrap-count-requires c = rw c.get_varint.ensures (has_count _ c.requires)
 
 pub returns : goal.returns
-returns c = stamps_count _ c.requires _ _ (num _ _ c.get_varint.ensures c.in-Value.is)
+returns c = stamps_count _ c.requires _ _ (sym c.get_varint.ensures ∙ c.unwrap-count.ensures)

@@ -1,14 +1,13 @@
-use Rattle.message.proofs.RowLoops.{checking_none, checked_all, checking_stops, checking_more}
+use mathlib.Core.Path.{◌∙◌}
+use Rattle.error.proofs.Exits.{handed_on}
+use Rattle.message.proofs.RowLoops.{checked_all, checking_stops, checking_more}
 use Rattle.message.proofs.reader.check_rows.Goals as goal
 
-pub loop-i-init : goal.loop-i-init
-loop-i-init c = checking_none _ _ _
+pub returns-in_err-end : goal.returns-in_err-end
+returns-in_err-end c = handed_on c.from_residual.ensures ∙ checking_stops c.loop.invariant c.loop-test.true c.in_err-end.ensures.is
 
-pub returns-in_default : goal.returns-in_default
-returns-in_default c = checking_stops c.loop-i.invariant c.loop-i-test.true _ _ c.get_signed_op-row.ensures.is c.in_default.is
-
-pub loop-i-preserved : goal.loop-i-preserved
-loop-i-preserved c = checking_more c.loop-i.invariant c.loop-i-test.true _ _ c.get_signed_op-row.ensures.is c.in-Read.is
+pub loop-preserved : goal.loop-preserved
+loop-preserved c = checking_more c.loop.invariant c.loop-test.true c.in_ok-end.ensures.is
 
 pub returns : goal.returns
-returns c = checked_all c.loop-i.invariant c.loop-i-test.false
+returns c = checked_all c.loop.invariant c.loop-test.false

@@ -1,11 +1,18 @@
-use Rattle.message.proofs.CountedReads.{count_refused, count_over, count_kept}
+use mathlib.Core.Path.{refl, sym, ◌∙◌}
+use borrow.Author.Tests.{le-leb, lt-leb}
+use Rattle.error.proofs.Exits.{handed_on}
+use Rattle.codec.proofs.ReadSteps.{on, off, pass, fail}
+use Rattle.message.specs.Reading.{count_within}
 use Rattle.message.proofs.reader.count_within.Goals as goal
 
-pub returns-in_default : goal.returns-in_default
-returns-in_default c = count_refused _ _ _ _ c.get_count-count.ensures c.in_default.is
+pub returns-in_err-count : goal.returns-in_err-count
+unfolding count_within
+returns-in_err-count c = handed_on c.from_residual.ensures ∙ off _ (sym c.in_err-count.ensures)
 
-pub returns-then-value-ours : goal.returns-then-value-ours
-returns-then-value-ours c = count_over _ _ _ _ c.get_count-count.ensures c.in-Value.is c.if-value-ours.true
+pub returns-then-count-ours : goal.returns-then-count-ours
+unfolding count_within
+returns-then-count-ours c = on _ (sym c.in_ok-count.ensures) (fail _ _ (lt-leb _ _ c.if-count-ours.true))
 
 pub returns : goal.returns
-returns c = count_kept _ _ _ _ c.get_count-count.ensures c.in-Value.is c.if-value-ours.false
+unfolding count_within
+returns c = on _ (sym c.in_ok-count.ensures) (pass _ _ (le-leb _ _ c.if-count-ours.false) refl)

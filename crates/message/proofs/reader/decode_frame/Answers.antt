@@ -1,24 +1,22 @@
-use mathlib.Core.Path.{refl}
-use native.Mathlib.Omega.{arith}
-use Rattle.message.proofs.Decoding.{envelope_read, body_inside, frame_short, no_envelope, body_part, frame_unread, frame_read}
+use mathlib.Core.Path.{refl, sym}
+use Rattle.error.proofs.Exits.{handed_on}
+use Rattle.message.proofs.Decoding.{body_inside, frame_short, no_envelope, frame_unread, frame_read}
 use Rattle.message.proofs.reader.decode_frame.Goals as goal
 
 pub returns-then-clock-lt520 : goal.returns-then-clock-lt520
 returns-then-clock-lt520 c = frame_short _ _ _ _ _ c.if-clock-lt520.true refl refl
 
-pub overflow_add-end : goal.overflow_add-end
-overflow_add-end c = omega (arith, body_inside _ _ (envelope_read _ c.read_envelope-read.ensures c.in-Envelope.is))
+pub returns-in_err-envelope : goal.returns-in_err-envelope
+returns-in_err-envelope c =
+    no_envelope _ _ _ c.if-clock-lt520.false _ _ (handed_on c.from_residual.ensures) (sym c.in_err-envelope.ensures) refl refl
 
-pub slice_bounds-decode_message-end : goal.slice_bounds-decode_message-end
-slice_bounds-decode_message-end c = body_inside _ _ (envelope_read _ c.read_envelope-read.ensures c.in-Envelope.is)
+pub part_of-body-requires : goal.part_of-body-requires
+part_of-body-requires c = body_inside _ _ (sym c.in_ok-envelope.ensures)
 
-pub returns-in-Refused : goal.returns-in-Refused
-returns-in-Refused c = no_envelope _ _ _ c.if-clock-lt520.false c.read_envelope-read.ensures _ _ c.in-Refused.is refl refl
+pub returns-in_err-kind : goal.returns-in_err-kind
+returns-in_err-kind c =
+    frame_unread _ _ _ c.if-clock-lt520.false (sym c.in_ok-envelope.ensures) _ _ _ c.part_of-body.ensures.0 (handed_on c.from_residual-in_err-kind.ensures) c.in_err-kind.ensures
 
-pub returns-in-Refused-told : goal.returns-in-Refused-told
-returns-in-Refused-told c =
-    frame_unread _ _ _ c.if-clock-lt520.false c.read_envelope-read.ensures c.in-Envelope.is _ _ _ (body_part _ _ _) c.decode_message-told.ensures c.in-Refused-told.is
-
-pub returns-in-Message : goal.returns-in-Message
-returns-in-Message c =
-    frame_read _ _ _ c.if-clock-lt520.false c.read_envelope-read.ensures c.in-Envelope.is _ _ _ (body_part _ _ _) c.decode_message-told.ensures c.in-Message.is
+pub returns : goal.returns
+returns c =
+    frame_read _ _ _ c.if-clock-lt520.false (sym c.in_ok-envelope.ensures) _ _ _ c.part_of-body.ensures.0 c.in_ok-kind.ensures

@@ -1,5 +1,5 @@
 use Rattle.replicated_log.proofs.Calls.Restoration.{part_ok}
-use Rattle.message.proofs.DeltaWrites.{start, row_room, again, all_stored}
+use Rattle.message.proofs.DeltaWrites.{start, row_room, again}
 use Rattle.message.proofs.writer.store_rows.Goals as goal
 
 pub loop-i-init : goal.loop-i-init
@@ -14,6 +14,3 @@ store_signed_op-next-requires c = (c.read_slot-held.ensures.1, row_room c.loop-i
 pub loop-i-preserved : goal.loop-i-preserved
 loop-i-preserved c =
     again c.loop-i.invariant c.read_slot-held.result c.loop-i-test.true c.read_slot-held.ensures.0 c.store_signed_op-next.ensures
-
-pub returns : goal.returns
-returns c = all_stored c.loop-i.invariant c.loop-i-test.false

@@ -1,26 +1,42 @@
-use mathlib.Core.Path.{ap}
+use mathlib.Core.Path.{sym, ◌∙◌, ap}
 use native.Mathlib.Omega.{arith}
-use Rattle.clock.specs.Vector.{outcome_of}
+use Rattle.error.specs.Answer.{done}
+use Rattle.error.proofs.Exits.{handed_on}
+use Rattle.peer.proofs.PeerCalls.{clock_sound}
 use Rattle.peer.proofs.PendingCount.{pending_refused, pending_done}
-use Rattle.replicated_log.proofs.Calls.Queries.{Passed, passed, stopped}
+use Rattle.replicated_log.proofs.Calls.Queries.{passed, stopped}
 use Rattle.replicated_log.proofs.Store.Soundness.{log_slots}
-use Rattle.replicated_log.specs.Areas.{Areas, areas}
+use Rattle.replicated_log.specs.Areas.{areas}
 use Rattle.replicated_log.proofs.Store.Encoding.{capacity_room}
 use Rattle.peer.proofs.Peer.pending_ops.Goals as goal
 
-pub pending_in-requires : goal.pending_in-requires
-pending_in-requires c =
+pub returns-in_err-check_store : goal.returns-in_err-check_store
+returns-in_err-check_store c =
     let args = c.args in
-    let a : Areas = (areas args.log.now args.held.now args.head.now) in
-    let k : Passed a = (passed (areas args.log.now args.held.now args.head.now) (outcome_of c.check_store-told.result) c.check_store-told.ensures (ap outcome_of c.in-Done.is)) in
-    (omega (arith, k.long.head), omega (arith, k.ok.log_few, capacity_room a.log), log_slots a k.ok)
+    let store = areas args.log.now args.held.now args.head.now in
+    handed_on c.from_residual.ensures ∙ pending_refused args.self store _ (stopped store c.in_err-check_store.ensures)
 
-pub returns-in-Refused : goal.returns-in-Refused
-returns-in-Refused c =
+pub returns-then-not-is_sound : goal.returns-then-not-is_sound
+returns-then-not-is_sound c =
     let args = c.args in
-    pending_refused args.self (areas args.log.now args.held.now args.head.now) _ (stopped (areas args.log.now args.held.now args.head.now) (outcome_of c.check_store-told.result) _ c.check_store-told.ensures (ap outcome_of c.in-Refused.is))
+    let store = areas args.log.now args.held.now args.head.now in
+    pending_done args.self store _ (passed store c.in_ok-check_store.ensures).read (rw (sym c.is_sound.ensures ∙ c.if-not-is_sound.true))
 
-pub returns-in-Done : goal.returns-in-Done
-returns-in-Done c =
+pub get_word-n-requires : goal.get_word-n-requires
+get_word-n-requires c =
     let args = c.args in
-    pending_done args.self (areas args.log.now args.held.now args.head.now) _ (passed (areas args.log.now args.held.now args.head.now) (outcome_of c.check_store-told.result) c.check_store-told.ensures (ap outcome_of c.in-Done.is)).read c.pending_in.ensures
+    let store = areas args.log.now args.held.now args.head.now in
+    omega (arith, (passed store c.in_ok-check_store.ensures).long.head)
+
+pub count_beyond-requires : goal.count_beyond-requires
+count_beyond-requires c =
+    let args = c.args in
+    let store = areas args.log.now args.held.now args.head.now in
+    let known = passed store c.in_ok-check_store.ensures in
+    (omega (arith, c.get_word-n.ensures, known.ok.log_few, capacity_room store.log), rw c.get_word-n.ensures (log_slots store known.ok), clock_sound args.self (sym c.is_sound.ensures ∙ c.if-not-is_sound.false))
+
+pub returns : goal.returns
+returns c =
+    let args = c.args in
+    let store = areas args.log.now args.held.now args.head.now in
+    pending_done args.self store _ (passed store c.in_ok-check_store.ensures).read (rw (sym c.is_sound.ensures ∙ c.if-not-is_sound.false, ← c.get_word-n.ensures) (ap done c.count_beyond.ensures))

@@ -1,9 +1,5 @@
-use Prim.Native.Nat.{◌-◌, ◌≤◌}
-use Rattle.quota.proofs.AuthorCounts.{Counted}
+use Rattle.std.proofs.Common.{◌≡◌, ◌≤◌, eqb, count_by, take}
 use Rattle.quota.proofs.authors.count_of.Given as goal
 
-abbrev pub invariant-loop-i : goal.invariant-loop-i
-invariant-loop-i l = (l.i ≤ l.n) × (l.count ≤ l.i) × Counted l.authors l.n l.a l.count l.i
-
-abbrev pub decreases-loop-i : goal.decreases-loop-i
-decreases-loop-i l = l.n - l.i
+abbrev pub invariant-loop-b : goal.invariant-loop-b
+invariant-loop-b l = (l.count ≤ l.b-index) × (l.count ≡ count_by (λ b. eqb b l.a) (take l.b-index l.b-items))

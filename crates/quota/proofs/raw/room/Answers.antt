@@ -1,7 +1,6 @@
 use native.Mathlib.Omega.{arith}
 use Rattle.replicated_log.proofs.Calls.Changes.{sound_long}
 use Rattle.quota.proofs.RoomTest.{sound_count, sound_marked, room_full, room_clock, room_marks, room_done}
-use Rattle.std.proofs.Common.{ap, not}
 use Rattle.quota.proofs.raw.room.Goals as goal
 
 pub get_word-count-requires : goal.get_word-count-requires
@@ -21,7 +20,7 @@ marks_fit-requires c =
     (c.requires.1, c.requires.2, sound_marked _ _ c.requires.0)
 
 pub returns-then-not-marks_fit : goal.returns-then-not-marks_fit
-returns-then-not-marks_fit c = room_marks _ _ _ _ _ _ _ _ _ c.get_word-count.ensures c.capacity.ensures c.if-count-m.false c.if-authors-gt32.false _ c.marks_fit.ensures (ap not c.if-not-marks_fit.true)
+returns-then-not-marks_fit c = room_marks _ _ _ _ _ _ _ _ _ c.get_word-count.ensures c.capacity.ensures c.if-count-m.false c.if-authors-gt32.false _ c.marks_fit.ensures c.if-not-marks_fit.true
 
 pub returns : goal.returns
-returns c = room_done _ _ _ _ _ _ _ _ _ c.get_word-count.ensures c.capacity.ensures c.if-count-m.false c.if-authors-gt32.false _ c.marks_fit.ensures (ap not c.if-not-marks_fit.false)
+returns c = room_done _ _ _ _ _ _ _ _ _ c.get_word-count.ensures c.capacity.ensures c.if-count-m.false c.if-authors-gt32.false _ c.marks_fit.ensures c.if-not-marks_fit.false

@@ -1,9 +1,5 @@
-use Prim.Native.Nat.{◌-◌, ◌≤◌}
 use Rattle.quota.proofs.RoomTest.{Running}
 use Rattle.quota.proofs.room.authors_fit.Given as goal
 
 abbrev pub invariant-loop-i : goal.invariant-loop-i
-invariant-loop-i l = (l.i ≤ l.m) × Running l.held l.batch l.scratch l.m l.initial.clock l.clock l.i
-
-abbrev pub decreases-loop-i : goal.decreases-loop-i
-decreases-loop-i l = l.m - l.i
+invariant-loop-i l = Running l.held l.batch l.scratch l.m l.initial.clock l.clock l.i

@@ -13,38 +13,20 @@ pub get_word-count-requires : goal.get_word-count-requires
 get_word-count-requires c = omega (arith, c.requires.table.long)
 
 pub loop-i-init : goal.loop-i-init
-loop-i-init c = (search rules, search rules, search rules, λ k h. absurd (omega arith), λ k h. absurd (omega arith), zeros_replicate 32, zeros_replicate 32)
-
-pub overflow_mul-i : goal.overflow_mul-i
-overflow_mul-i c = omega (arith, c.requires.table.long, c.requires.table.few, c.get_word-count.ensures)
-
-pub overflow_add-i : goal.overflow_add-i
-overflow_add-i c = omega (arith, c.requires.table.long, c.requires.table.few, c.get_word-count.ensures)
+loop-i-init c = (omega (arith, c.requires.table.few), search rules, search rules, λ k h. absurd (omega arith), λ k h. absurd (omega arith), zeros_replicate 32, zeros_replicate 32)
 
 pub get_word-requires : goal.get_word-requires
-get_word-requires c = omega (arith, c.requires.table.long, c.requires.table.few, c.get_word-count.ensures)
-
-pub offset_bounds-authors-i : goal.offset_bounds-authors-i
-offset_bounds-authors-i c = omega (arith, c.requires.table.few, c.get_word-count.ensures)
-
-pub bounds-authors-i : goal.bounds-authors-i
-bounds-authors-i c = omega (arith, c.requires.table.few, c.get_word-count.ensures)
-
-pub offset_bounds-numbers-i : goal.offset_bounds-numbers-i
-offset_bounds-numbers-i c = omega (arith, c.requires.table.few, c.get_word-count.ensures)
-
-pub bounds-numbers-i : goal.bounds-numbers-i
-bounds-numbers-i c = omega (arith, c.requires.table.few, c.get_word-count.ensures)
+get_word-requires c = omega (arith, c.requires.table.long)
 
 pub loop-i-preserved : goal.loop-i-preserved
 loop-i-preserved c = (
-  search rules,
+  c.loop-i.invariant.0,
   simp length-set c.loop-i.invariant.1,
   simp length-set c.loop-i.invariant.2,
-  fill_turn (λ (k : ℕ). get64 c.args.head.now (1096 + 32 * k)) c.loop-i.authors c.loop-i.i _ (omega (arith, c.requires.table.few, c.get_word-count.ensures)) c.get_word.ensures c.loop-i.invariant.3,
-  fill_turn (λ (k : ℕ). 1) c.loop-i.numbers c.loop-i.i _ (omega (arith, c.requires.table.few, c.get_word-count.ensures)) refl c.loop-i.invariant.4,
-  zeros_turn c.loop-i.authors c.loop-i.i _ (omega (arith, c.requires.table.few, c.get_word-count.ensures)) c.loop-i.invariant.5,
-  zeros_turn c.loop-i.numbers c.loop-i.i _ (omega (arith, c.requires.table.few, c.get_word-count.ensures)) c.loop-i.invariant.6,
+  fill_turn (λ (k : ℕ). get64 c.args.head.now (1096 + 32 * k)) c.loop-i.authors c.loop-i.i _ (omega arith) c.get_word.ensures c.loop-i.invariant.3,
+  fill_turn (λ (k : ℕ). 1) c.loop-i.numbers c.loop-i.i _ (omega arith) refl c.loop-i.invariant.4,
+  zeros_turn c.loop-i.authors c.loop-i.i _ (omega arith) c.loop-i.invariant.5,
+  zeros_turn c.loop-i.numbers c.loop-i.i _ (omega arith) c.loop-i.invariant.6,
 )
 
 pub returns : goal.returns

@@ -1,8 +1,8 @@
-use Rattle.sync.proofs.DeltaLoops.{one_is, most_is}
+use Rattle.std.proofs.Common.{arith}
+use Rattle.std.proofs.lemmas.Bool.Decides.{nat_tests}
+use Rattle.sync.specs.Delta.{at_least_one}
 use Rattle.sync.proofs.chunk.at_least_one.Goals as goal
 
-pub returns-then-n-eq0 : goal.returns-then-n-eq0
-returns-then-n-eq0 c = one_is _ c.if-n-eq0.true
-
 pub returns : goal.returns
-returns c = most_is _ c.if-n-eq0.false
+unfolding at_least_one
+returns c = grind (arith, nat_tests)

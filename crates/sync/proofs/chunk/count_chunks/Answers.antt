@@ -1,30 +1,19 @@
 use mathlib.Core.Path.{sym, ◌∙◌}
 use native.Mathlib.Omega.{arith}
-use borrow.Author.Tests.{not-true, not-false}
-use Rattle.sync.proofs.DeltaLoops.{tallying_start, tallying_skip, tallying_next, tallying_grow, tallying_none, tallying_last}
-use Rattle.std.proofs.Common.{ap, not}
+use Rattle.sync.proofs.DeltaLoops.{tallying_skip, tallying_next, tallying_grow, tallying_none, tallying_last}
 use Rattle.sync.proofs.chunk.count_chunks.Goals as goal
-
-pub loop-i-init : goal.loop-i-init
-loop-i-init c = tallying_start _ _ _ _ _
-
-pub is_missing-requires : goal.is_missing-requires
-is_missing-requires c = (c.requires.slots c.loop-i.i c.loop-i-test.true, c.requires.clock_ok_lem)
 
 pub loop-i-preserved-then-not-is_missing : goal.loop-i-preserved-then-not-is_missing
 loop-i-preserved-then-not-is_missing c =
-    tallying_skip _ _ _ _ _ c.loop-i.i _ _ _ c.loop-i.invariant c.loop-i-test.true (sym (not-true _ (ap not c.if-not-is_missing.true)) ∙ c.is_missing.ensures)
-
-pub row_size-row-requires : goal.row_size-row-requires
-row_size-row-requires c = c.requires.slots c.loop-i.i c.loop-i-test.true
+    tallying_skip _ _ _ _ _ c.loop-i.i _ _ _ c.loop-i.invariant c.loop-i-test.true (sym c.if-not-is_missing.true ∙ c.is_missing.ensures)
 
 pub loop-i-preserved-then-starts_next : goal.loop-i-preserved-then-starts_next
 loop-i-preserved-then-starts_next c =
-    tallying_next _ _ _ _ _ c.loop-i.i c.loop-i.k c.loop-i.count c.loop-i.size c.loop-i.invariant c.loop-i-test.true (sym (not-false _ (ap not c.if-not-is_missing.false)) ∙ c.is_missing.ensures) _ c.row_size-row.ensures.0 c.row_size-row.ensures.1 (sym c.if-starts_next.true ∙ c.starts_next.ensures)
+    tallying_next _ _ _ _ _ c.loop-i.i c.loop-i.k c.loop-i.count c.loop-i.size c.loop-i.invariant c.loop-i-test.true (sym c.if-not-is_missing.false ∙ c.is_missing.ensures) _ c.row_size-row.ensures.0 c.row_size-row.ensures.1 (sym c.if-starts_next.true ∙ c.starts_next.ensures)
 
 pub loop-i-preserved : goal.loop-i-preserved
 loop-i-preserved c =
-    tallying_grow _ _ _ _ _ c.loop-i.i c.loop-i.k c.loop-i.count c.loop-i.size c.loop-i.invariant c.loop-i-test.true (sym (not-false _ (ap not c.if-not-is_missing.false)) ∙ c.is_missing.ensures) _ c.row_size-row.ensures.0 c.row_size-row.ensures.1 (sym c.if-starts_next.false ∙ c.starts_next.ensures)
+    tallying_grow _ _ _ _ _ c.loop-i.i c.loop-i.k c.loop-i.count c.loop-i.size c.loop-i.invariant c.loop-i-test.true (sym c.if-not-is_missing.false ∙ c.is_missing.ensures) _ c.row_size-row.ensures.0 c.row_size-row.ensures.1 (sym c.if-starts_next.false ∙ c.starts_next.ensures)
 
 pub returns-then-count-eq0 : goal.returns-then-count-eq0
 returns-then-count-eq0 c = tallying_none _ _ _ _ _ c.loop-i.i _ _ _ c.loop-i.invariant (omega arith) c.if-count-eq0.true

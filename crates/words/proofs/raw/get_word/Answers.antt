@@ -1,5 +1,6 @@
-use Rattle.words.proofs.Words.{halves}
+use mathlib.Core.Path.{◌∙◌}
+use Rattle.words.proofs.Words.{word_read}
 use Rattle.words.proofs.raw.get_word.Goals as goal
 
 pub returns : goal.returns
-returns c = halves _ _ _ _ c.get_half.ensures.0 c.get_half-2.ensures.0
+returns c = c.from_be_bytes.ensures ∙ word_read _ _ _ c.requires c.copy_from_slice.ensures.after

@@ -1,13 +1,6 @@
-use borrow.Author.Rules.{rules}
-use native.Mathlib.Omega.{arith}
-use Rattle.words.proofs.Moves.{down_none, down_turn, down_all}
+use mathlib.Core.Path.{◌∙◌}
+use Rattle.words.proofs.Moves.{copied_down}
 use Rattle.words.proofs.raw.move_down.Goals as goal
 
-pub loop-i-init : goal.loop-i-init
-loop-i-init c = (search rules, search rules, search rules, down_none _ _ _)
-
-pub loop-i-preserved : goal.loop-i-preserved
-loop-i-preserved c = (search rules, search rules, search rules, down_turn _ _ _ _ _ c.loop-i.invariant.3 (search rules) (search rules) (search rules))
-
 pub returns : goal.returns
-returns c = down_all _ _ _ _ _ _ c.loop-i.invariant.3 (omega arith)
+returns c = c.copy_within.ensures.after ∙ copied_down _ _ _ _ c.requires.0 c.requires.1

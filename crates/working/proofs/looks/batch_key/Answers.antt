@@ -1,10 +1,10 @@
 use mathlib.Core.Path.{refl, sym, ◌∙◌, ap}
-use Rattle.working.proofs.ReferenceRows.{no_head_lem, head_key}
-use Rattle.row.specs.Values.{head_of}
+use Rattle.std.specs.Result.{is_ok}
+use Rattle.working.proofs.ReferenceRows.{head_there, head_key}
 use Rattle.working.proofs.looks.batch_key.Goals as goal
 
-pub returns-in_default : goal.returns-in_default
-returns-in_default c = absurd (no_head_lem _ _ _ c.requires (sym c.read_head.ensures ∙ ap head_of c.in_default.is))
+pub unwrap-requires : goal.unwrap-requires
+unwrap-requires c = ap is_ok c.read_head.ensures ∙ head_there _ _ c.requires
 
 pub returns : goal.returns
-returns c = head_key _ _ _ _ c.requires (sym c.read_head.ensures ∙ ap head_of c.in-Head.is) _ refl refl refl
+returns c = head_key _ _ _ _ c.requires (sym c.read_head.ensures ∙ c.unwrap.ensures) _ refl refl refl

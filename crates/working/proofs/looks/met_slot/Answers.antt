@@ -12,10 +12,7 @@ pub get_word-n-requires : goal.get_word-n-requires
 get_word-n-requires c = omega (arith, in_area c.args.held.now c.args.base c.requires.0)
 
 pub loop-i-init : goal.loop-i-init
-loop-i-init c = (omega arith, slot_few _ _ c.requires.0 _ c.get_word-n.ensures, refl)
-
-pub overflow_mul-at : goal.overflow_mul-at
-overflow_mul-at c = omega arith
+loop-i-init c = (slot_few _ _ c.requires.0 _ c.get_word-n.ensures, refl)
 
 pub overflow_add-at : goal.overflow_add-at
 overflow_add-at c =
@@ -39,11 +36,11 @@ get_word-want-requires c =
 
 pub returns-then-want-have : goal.returns-then-want-have
 returns-then-want-have c =
-    met_not _ _ c.loop-i.i _ _ _ (slot_next _ _ c.requires.0 _ _ _ _ c.get_word-n.ensures (search rules) c.get_word-a.ensures c.get_word-want.ensures) c.clock_get-have.ensures c.if-want-have.true c.loop-i.invariant.2
+    met_not _ _ c.loop-i.i _ _ _ (slot_next _ _ c.requires.0 _ _ _ _ c.get_word-n.ensures (search rules) c.get_word-a.ensures c.get_word-want.ensures) c.clock_get-have.ensures c.if-want-have.true c.loop-i.invariant.1
 
 pub loop-i-preserved : goal.loop-i-preserved
 loop-i-preserved c =
-    (omega arith, omega arith, met_turn _ _ c.loop-i.i _ _ _ (slot_next _ _ c.requires.0 _ _ _ _ c.get_word-n.ensures (search rules) c.get_word-a.ensures c.get_word-want.ensures) c.clock_get-have.ensures c.if-want-have.false c.loop-i.invariant.2)
+    (c.loop-i.invariant.0, met_turn _ _ c.loop-i.i _ _ _ (slot_next _ _ c.requires.0 _ _ _ _ c.get_word-n.ensures (search rules) c.get_word-a.ensures c.get_word-want.ensures) c.clock_get-have.ensures c.if-want-have.false c.loop-i.invariant.1)
 
 pub returns : goal.returns
-returns c = met_end _ _ c.loop-i.i _ (slot_length _ _ c.requires.0 _ c.get_word-n.ensures) (omega arith) c.loop-i.invariant.2
+returns c = met_end _ _ c.loop-i.i _ (slot_length _ _ c.requires.0 _ c.get_word-n.ensures) (omega arith) c.loop-i.invariant.1

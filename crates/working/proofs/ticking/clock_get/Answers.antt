@@ -1,17 +1,12 @@
-use mathlib.Core.Path.{sym, ◌∙◌}
 use native.Mathlib.Omega.{arith}
-use Rattle.working.proofs.DrainClock.{ascends, here_below, get_here, get_gap}
-use borrow.Author.Rules.{rules}
+use Rattle.working.proofs.DrainClock.{below, get_here, get_gap}
 use Rattle.working.proofs.ticking.clock_get.Goals as goal
 
-pub find-i-requires : goal.find-i-requires
-find-i-requires c = (search rules, ascends _ _ _ c.requires)
-
 pub bounds-numbers-i : goal.bounds-numbers-i
-bounds-numbers-i c = omega (arith, here_below _ _ _ _ _ c.requires c.find-i.ensures (sym c.stands.ensures ∙ c.if-stands.true))
+bounds-numbers-i c = omega (arith, below _ _ _ _ c.requires _ c.in-Ok.ensures.position)
 
-pub returns-then-stands : goal.returns-then-stands
-returns-then-stands c = get_here _ _ _ _ _ c.requires c.find-i.ensures (sym c.stands.ensures ∙ c.if-stands.true)
+pub returns-in-Ok : goal.returns-in-Ok
+returns-in-Ok c = get_here _ _ _ _ c.requires _ c.in-Ok.ensures.position
 
-pub returns : goal.returns
-returns c = get_gap _ _ _ _ _ c.requires c.find-i.ensures (sym c.stands.ensures ∙ c.if-stands.false)
+pub returns-in-Err : goal.returns-in-Err
+returns-in-Err c = get_gap _ _ _ _ c.requires _ c.in-Err.ensures.position

@@ -1,11 +1,8 @@
-use Prim.Native.Nat.{ℕ, ◌+◌, ◌*◌, ◌-◌, ◌≤◌, ◌<◌}
+use Prim.Native.Nat.{ℕ, ◌+◌, ◌*◌, ◌≤◌, ◌<◌}
 use mathlib.Core.Path.{◌≡◌}
-use lib.ListN.{length, get_or}
+use lib.ListN.{get_or}
 use Rattle.words.specs.Be.{get64}
 use Rattle.working.proofs.ticking.start_clock.Given as goal
 
 abbrev pub invariant-loop-i : goal.invariant-loop-i
-invariant-loop-i l = (l.i ≤ l.n) × (l.n ≤ 32) × (length l.authors ≡ length l.initial.authors) × (length l.numbers ≡ length l.initial.numbers) × ((k : ℕ) → k < l.i → get_or l.authors k 0 ≡ get64 l.head (56 + 16 * k)) × ((k : ℕ) → k < l.i → get_or l.numbers k 0 ≡ get64 l.head (64 + 16 * k))
-
-abbrev pub decreases-loop-i : goal.decreases-loop-i
-decreases-loop-i l = l.n - l.i
+invariant-loop-i l = (l.n ≤ 32) × ((k : ℕ) → k < l.i → get_or l.authors k 0 ≡ get64 l.head (56 + 16 * k)) × ((k : ℕ) → k < l.i → get_or l.numbers k 0 ≡ get64 l.head (64 + 16 * k))

@@ -1,4 +1,4 @@
 use Rattle.clock.proofs.hybrid.HybridClock.issue.Goals as goal
 
 pub returns : goal.returns
-returns c = rw c.moved-clock.ensures
+returns c = rw c.moved.ensures

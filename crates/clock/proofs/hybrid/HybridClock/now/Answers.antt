@@ -3,8 +3,8 @@ use native.Mathlib.Omega.{arith}
 use Rattle.clock.proofs.HybridLaws.{now_moved, now_over}
 use Rattle.clock.proofs.hybrid.HybridClock.now.Goals as goal
 
-pub returns-then-counter-gt4294967295 : goal.returns-then-counter-gt4294967295
-returns-then-counter-gt4294967295 c =
+pub returns-then-counter : goal.returns-then-counter
+returns-then-counter c =
     let args = c.args in
     sym (now_over args.self args.physical _ _ c.greater-wall.ensures c.send_counter-counter.ensures (omega arith))
 

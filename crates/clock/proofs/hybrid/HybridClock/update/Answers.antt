@@ -6,8 +6,8 @@ use Rattle.clock.proofs.hybrid.HybridClock.update.Goals as goal
 pub returns-then-remote_wall-saturating_add : goal.returns-then-remote_wall-saturating_add
 returns-then-remote_wall-saturating_add c = sym (update_ahead _ _ _ _ c.saturating_add.ensures (omega arith))
 
-pub returns-then-counter-gt4294967295 : goal.returns-then-counter-gt4294967295
-returns-then-counter-gt4294967295 c =
+pub returns-then-counter : goal.returns-then-counter
+returns-then-counter c =
     sym
     (update_full _ _ _ _ c.saturating_add.ensures _ _ _ c.greater.ensures c.greater-wall.ensures
     c.next_counter-counter.ensures (omega arith) (omega arith))

@@ -1,24 +1,21 @@
-use mathlib.Core.Path.{sym, ◌∙◌, ap}
-use borrow.Author.Tests.{not-true, not-false}
-use Rattle.error.specs.Answer.{done}
+use Rattle.error.proofs.Exits.{handed_on}
 use Rattle.clock.specs.Vector.{dominates_call}
+use Rattle.clock.proofs.ClockRules.{checked, unsound}
 use Rattle.clock.proofs.vector.VectorClock.dominates.Goals as goal
 
-pub returns-then-not-is_sound : goal.returns-then-not-is_sound
+pub returns-in_err-check : goal.returns-in_err-check
 unfolding dominates_call
-returns-then-not-is_sound c = rw (sym c.is_sound.ensures ∙ not-true _ c.if-not-is_sound.true-raw)
+returns-in_err-check c = let no = unsound c.args.self.now c.in_err-check.ensures in rw (handed_on c.from_residual.ensures, no.0, no.1)
 
-pub returns-then-not-is_sound-2 : goal.returns-then-not-is_sound-2
+pub returns-in_err-check-2 : goal.returns-in_err-check-2
 unfolding dominates_call
-returns-then-not-is_sound-2 c = rw ((sym c.is_sound.ensures ∙ not-false _ c.if-not-is_sound.false-raw), (sym c.is_sound-2.ensures ∙ not-true _ c.if-not-is_sound-2.true-raw))
+returns-in_err-check-2 c =
+    let no = unsound c.args.other.now c.in_err-check-2.ensures in
+    rw (handed_on c.from_residual-in_err-check-2.ensures, checked c.args.self.now c.in_ok-check.ensures, no.0, no.1)
 
 pub covers-requires : goal.covers-requires
-covers-requires c = ((sym c.is_sound.ensures ∙ not-false _ c.if-not-is_sound.false-raw), (sym c.is_sound-2.ensures ∙ not-false _ c.if-not-is_sound-2.false-raw))
-
-pub returns-then-covers : goal.returns-then-covers
-unfolding dominates_call
-returns-then-covers c = rw ((sym c.is_sound.ensures ∙ not-false _ c.if-not-is_sound.false-raw), (sym c.is_sound-2.ensures ∙ not-false _ c.if-not-is_sound-2.false-raw)) (ap done (sym c.if-covers.true ∙ c.covers.ensures))
+covers-requires c = (checked c.args.self.now c.in_ok-check.ensures, checked c.args.other.now c.in_ok-check-2.ensures)
 
 pub returns : goal.returns
 unfolding dominates_call
-returns c = rw ((sym c.is_sound.ensures ∙ not-false _ c.if-not-is_sound.false-raw), (sym c.is_sound-2.ensures ∙ not-false _ c.if-not-is_sound-2.false-raw)) (ap done (sym c.if-covers.false ∙ c.covers.ensures))
+returns c = rw (checked c.args.self.now c.in_ok-check.ensures, checked c.args.other.now c.in_ok-check-2.ensures, c.covers.ensures)

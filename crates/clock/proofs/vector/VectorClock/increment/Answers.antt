@@ -1,32 +1,41 @@
-use native.Mathlib.Omega.{arith}
-use mathlib.Core.Path.{sym, ◌∙◌, ap}
-use borrow.Author.Tests.{not-true, not-false}
 use Prim.Native.Nat.{◌+◌}
+use native.Mathlib.Omega.{arith}
+use Rattle.error.proofs.Exits.{handed_on}
+use Rattle.error.specs.Answer.{ends}
 use Rattle.clock.specs.Entries.{put}
-use Rattle.clock.specs.Vector.{increment_call, entries, changed_of, outcome_of}
+use Rattle.clock.specs.Vector.{increment_call, entries}
+use Rattle.clock.proofs.ClockRules.{checked, unsound}
 use Rattle.clock.proofs.ClockCalls.{grown_number, grown_stop}
 use Rattle.clock.proofs.Increment.{increment_spent, increment_told}
 use Rattle.clock.proofs.vector.VectorClock.increment.Goals as goal
 
-pub returns-then-not-is_sound : goal.returns-then-not-is_sound
+pub returns-in_err-check : goal.returns-in_err-check
 unfolding increment_call
-returns-then-not-is_sound c = rw (sym c.is_sound.ensures ∙ not-true _ c.if-not-is_sound.true-raw)
+returns-in_err-check c = let no = unsound c.args.self.now c.in_err-check.ensures in rw (handed_on c.from_residual.ensures, no.0, no.1)
 
 pub get-have-requires : goal.get-have-requires
-get-have-requires c = (sym c.is_sound.ensures ∙ not-false _ c.if-not-is_sound.false-raw)
+get-have-requires c = checked c.args.self.now c.in_ok-check.ensures
 
 pub returns-then-have-ge18446744073709551615 : goal.returns-then-have-ge18446744073709551615
-returns-then-have-ge18446744073709551615 c = increment_spent c.args.self c.args.actor.0 c.get-have.result (sym c.is_sound.ensures ∙ not-false _ c.if-not-is_sound.false-raw) c.get-have.ensures (omega arith)
+returns-then-have-ge18446744073709551615 c =
+    increment_spent c.args.self.now c.args.actor.0 c.get-have.result (checked c.args.self.now c.in_ok-check.ensures) c.get-have.ensures (omega arith)
 
-pub entered-step-requires : goal.entered-step-requires
-entered-step-requires c = (sym c.is_sound.ensures ∙ not-false _ c.if-not-is_sound.false-raw)
+pub set-requires : goal.set-requires
+set-requires c = checked c.args.self.now c.in_ok-check.ensures
 
-pub returns-in-Done : goal.returns-in-Done
-returns-in-Done c =
-    let args = c.args in
-    increment_told args.self args.actor.0 c.get-have.result (sym c.is_sound.ensures ∙ not-false _ c.if-not-is_sound.false-raw) c.get-have.ensures (omega arith) _ (grown_number args.self (put (entries args.self) args.actor.0 (c.get-have.result + 1)) (changed_of c.entered-step.result) c.entered-step.ensures (c.get-have.result + 1) (ap outcome_of c.in-Done.is))
+pub returns-in_err-set : goal.returns-in_err-set
+returns-in_err-set c =
+    let clock = c.args.self.now in
+    let have = c.get-have.result in
+    let grown = put (entries clock) c.args.actor.0 (have + 1) in
+    rw (handed_on c.from_residual-in_err-set.ensures)
+    (increment_told clock c.args.actor.0 have (checked clock c.in_ok-check.ensures) c.get-have.ensures (omega arith) _
+    (grown_stop clock grown (ends c.set.result c.set.new.c) c.set.ensures (have + 1) _ c.in_err-set.was))
 
-pub returns-in-Refused : goal.returns-in-Refused
-returns-in-Refused c =
-    let args = c.args in
-    increment_told args.self args.actor.0 c.get-have.result (sym c.is_sound.ensures ∙ not-false _ c.if-not-is_sound.false-raw) c.get-have.ensures (omega arith) _ (grown_stop args.self (put (entries args.self) args.actor.0 (c.get-have.result + 1)) (changed_of c.entered-step.result) c.entered-step.ensures (c.get-have.result + 1) _ (ap outcome_of c.in-Refused.is))
+pub returns : goal.returns
+returns c =
+    let clock = c.args.self.now in
+    let have = c.get-have.result in
+    let grown = put (entries clock) c.args.actor.0 (have + 1) in
+    increment_told clock c.args.actor.0 have (checked clock c.in_ok-check.ensures) c.get-have.ensures (omega arith) _
+    (grown_number clock grown (ends c.set.result c.set.new.c) c.set.ensures (have + 1) c.in_ok-set.was)

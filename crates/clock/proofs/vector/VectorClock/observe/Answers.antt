@@ -1,15 +1,15 @@
-use mathlib.Core.Path.{sym, ◌∙◌}
-use borrow.Author.Tests.{not-true, not-false}
+use Rattle.error.proofs.Exits.{handed_on}
 use Rattle.clock.specs.Vector.{observe_call}
+use Rattle.clock.proofs.ClockRules.{checked, unsound}
 use Rattle.clock.proofs.vector.VectorClock.observe.Goals as goal
 
-pub returns-then-not-is_sound : goal.returns-then-not-is_sound
+pub returns-in_err-check : goal.returns-in_err-check
 unfolding observe_call
-returns-then-not-is_sound c = rw (sym c.is_sound.ensures ∙ not-true _ c.if-not-is_sound.true-raw)
+returns-in_err-check c = let no = unsound c.args.self.now c.in_err-check.ensures in rw (handed_on c.from_residual.ensures, no.0, no.1)
 
-pub observed-requires : goal.observed-requires
-observed-requires c = (sym c.is_sound.ensures ∙ not-false _ c.if-not-is_sound.false-raw)
+pub observe-requires : goal.observe-requires
+observe-requires c = checked c.args.self.now c.in_ok-check.ensures
 
 pub returns : goal.returns
 unfolding observe_call
-returns c = rw (sym c.is_sound.ensures ∙ not-false _ c.if-not-is_sound.false-raw) c.observed.ensures
+returns c = rw (checked c.args.self.now c.in_ok-check.ensures) c.observe.ensures

@@ -1,5 +1,13 @@
-use Rattle.codec.proofs.ReadParts.{within_bytes}
+use mathlib.Core.Path.{refl, sym}
+use Rattle.codec.proofs.ReaderSteps.{bytes_inside}
 use Rattle.codec.proofs.reader.Reader.bytes.Goals as goal
 
-pub part_of-bytes-requires : goal.part_of-bytes-requires
-part_of-bytes-requires c = within_bytes _ _ _ _ c.get_bytes-read.ensures
+pub part_of-requires : goal.part_of-requires
+part_of-requires c = bytes_inside _ _ _ _ _ (sym c.in_ok-part.ensures)
+
+pub returns : goal.returns
+returns c =
+    record {
+      handed = rw (← c.in_ok-part.ensures) (record { bytes = c.part_of.ensures.0; place = c.part_of.ensures.1 });
+      reader = rw (← c.in_ok-part.ensures) refl;
+    }

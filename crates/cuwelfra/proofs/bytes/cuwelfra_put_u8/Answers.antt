@@ -1,6 +1,0 @@
-use Rattle.cuwelfra.specs.Bytes.{written_told}
-use Rattle.cuwelfra.proofs.ExportLaws.{exports}
-use Rattle.cuwelfra.proofs.bytes.cuwelfra_put_u8.Goals as goal
-
-pub returns : goal.returns
-returns c = exports written_told _ _ _ _ c.written.ensures c.put_u8.ensures

@@ -1,6 +1,0 @@
-use Rattle.error.specs.Answer.{told_by}
-use Rattle.cuwelfra.proofs.ExportLaws.{exports}
-use Rattle.cuwelfra.proofs.changes.cuwelfra_insert.Goals as goal
-
-pub returns : goal.returns
-returns c = exports told_by _ _ _ _ c.outcome_told.ensures c.insert.ensures

@@ -1,6 +1,0 @@
-use mathlib.Core.Path.{◌∙◌, ap}
-use Rattle.cuwelfra.specs.Hybrids.{hybrid_told}
-use Rattle.cuwelfra.proofs.hybrid.cuwelfra_hybrid_set_max_drift.Goals as goal
-
-pub returns : goal.returns
-returns c = c.hybrid_told.ensures ∙ ap hybrid_told (c.set_max_drift.ensures ∙ rw c.clock_by.ensures)

@@ -1,6 +1,0 @@
-use Rattle.cuwelfra.specs.Vectors.{count_told}
-use Rattle.cuwelfra.proofs.ExportLaws.{exports}
-use Rattle.cuwelfra.proofs.outgoing.cuwelfra_delta_sizes.Goals as goal
-
-pub returns : goal.returns
-returns c = exports count_told _ _ _ _ c.clock_told.ensures c.delta_sizes.ensures
