@@ -2,13 +2,10 @@
 use Prim.Native.Nat.{ℕ}
 use mathlib.Core.Path.{◌≡◌, refl, ◌∙◌, ap}
 use mathlib.Core.List.{List}
-use Rattle.error.specs.declared.Told.{Told}
-use Rattle.error.specs.Answer.{Answer, told_by, ends}
-use Rattle.clock.specs.declared.stamp.Timestamp.{Timestamp}
 use Rattle.clock.specs.declared.hybrid.HybridClock.{HybridClock}
 use Rattle.replicated_log.specs.Areas.{Areas}
 use Rattle.merging.specs.Batch.{Limits}
-use Rattle.merging.specs.Calls.{BatchCall, Lent, set_floor_call}
+use Rattle.merging.specs.Calls.{BatchCall, Lent}
 use Rattle.merging.specs.Delta.{delta_call}
 use Rattle.batch.specs.declared.MergeLimits.{MergeLimits}
 use Rattle.batch.specs.Settings.{limits_of}
@@ -16,9 +13,7 @@ use Rattle.merge.specs.Reports.{joined_of}
 use Rattle.merge.specs.declared.Merged.{Merged}
 use Rattle.error.specs.declared.Ends.{Ends}
 use Rattle.cuwelfra.specs.declared.batches.DeltaTold.{DeltaTold}
-use Rattle.cuwelfra.specs.Exports.{exported}
 use Rattle.cuwelfra.specs.Batches.{limits_by, delta_told}
-use Rattle.cuwelfra.proofs.ExportLaws.{exports}
 
 limits_are : (m : MergeLimits)
     → limits_of m
@@ -40,7 +35,3 @@ pub delta_exported : (a : Areas) (m : MergeLimits) (j k : HybridClock) (time : �
     time batch scratch output))
 delta_exported a m j k time batch scratch output l x r e b q =
     q l ∙ ap delta_told (b ∙ (λ i. delta_call a (e i) (brought (limits_are m i) time batch scratch output)))
-
-pub floor_told : (a b : Areas) (t u : Timestamp) (answer : Answer Unit) (r : Told) → t ≡ u → ends answer b ≡ set_floor_call a t → r ≡ told_by answer
-    → (r, b) ≡ exported told_by (set_floor_call a u)
-floor_told a b t u answer r e l q = exports told_by r answer b (set_floor_call a u) q (l ∙ ap (set_floor_call a) e)

@@ -1,8 +1,6 @@
 -- The exported answer to preparing, from that of the call inside.
 use mathlib.Core.Path.{◌≡◌, sym, ◌∙◌, ap}
 use lib.ListN.{replicate}
-use mathlib.Core.List.{List}
-use Prim.Native.Nat.{ℕ}
 use Rattle.error.specs.declared.Told.{Told}
 use Rattle.std.specs.declared.result.Result.TheVariants.{Ok, Err}
 use Rattle.error.specs.Answer.{Answer, done, refused, accepted, ends}
@@ -16,10 +14,9 @@ use Rattle.clock.specs.declared.hybrid.HybridClock.{HybridClock}
 use Rattle.clock.specs.Vector.{authors_of, numbers_of}
 use Rattle.row.specs.Rows.{Row}
 use Rattle.row.specs.Values.{deps_by}
-use Rattle.merging.specs.Desk.{PrepareCall, prepare_call}
 use Rattle.engine.specs.declared.Prepared.{Prepared}
-use Rattle.engine.specs.Answers.{prepared_row, prepared_by, prepared}
-use Rattle.cuwelfra.specs.Desks.{row_told, prepared_told}
+use Rattle.engine.specs.Answers.{prepared_row, prepared_by}
+use Rattle.cuwelfra.specs.Desks.{row_told}
 use Rattle.cuwelfra.specs.declared.desk.PreparedTold.{PreparedTold}
 
 -- the struct that the code makes of a row

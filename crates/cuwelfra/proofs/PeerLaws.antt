@@ -17,9 +17,7 @@ use Rattle.error.specs.declared.Told.{Told}
 use Rattle.error.specs.Numbers.{told_of}
 use Rattle.std.specs.declared.result.Result.TheVariants.{Ok, Err}
 use Rattle.error.specs.Answer.{Answer, done, refused, and_then, unless, accepted, told_by, nothing, ends}
-use Rattle.error.proofs.Exits.{is_done}
-use Rattle.std.specs.Result.{is_ok, result_and}
-use Rattle.cuwelfra.proofs.ExportLaws.{not_ok}
+use Rattle.std.specs.Result.{result_and}
 use Rattle.replicated_log.proofs.Calls.Changes.{clashing}
 use Rattle.merging.proofs.Traces.{done_same}
 use Rattle.error.specs.declared.Ends.{Ends}

@@ -3,7 +3,7 @@ use Rattle.std.specs.Prelude.{ℕ}
 use Rattle.words.specs.Names.{Time}
 use Rattle.error.specs.Numbers.{told_of}
 use Rattle.std.specs.declared.result.Result.TheVariants.{Ok, Err}
-use Rattle.error.specs.Answer.{Answer, done, refused, accepted}
+use Rattle.error.specs.Answer.{Answer, accepted}
 use Rattle.error.specs.declared.Ends.{Ends}
 use Rattle.clock.specs.declared.hybrid.HybridClock.{HybridClock}
 use Rattle.merging.specs.Batch.{Limits}

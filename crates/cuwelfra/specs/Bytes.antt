@@ -4,7 +4,7 @@ use Rattle.std.specs.Prelude.{ℕ}
 use Rattle.words.specs.Names.{Position}
 use Rattle.error.specs.Numbers.{told_of}
 use Rattle.std.specs.declared.result.Result.TheVariants.{Ok, Err}
-use Rattle.error.specs.Answer.{Answer, done, refused, accepted, Got, got, bad}
+use Rattle.error.specs.Answer.{Answer, accepted, Got}
 use Rattle.codec.specs.declared.Part.{Part}
 use Rattle.codec.specs.declared.Envelope.{Envelope}
 use Rattle.cuwelfra.specs.declared.bytes.NumberTold.{NumberTold}

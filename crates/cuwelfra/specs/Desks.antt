@@ -5,7 +5,7 @@ use Rattle.words.specs.Sizes.{most_deps}
 use Rattle.words.specs.Areas.{pad}
 use Rattle.error.specs.Numbers.{told_of}
 use Rattle.std.specs.declared.result.Result.TheVariants.{Ok, Err}
-use Rattle.error.specs.Answer.{Answer, done, refused, accepted}
+use Rattle.error.specs.Answer.{Answer, accepted}
 use Rattle.error.specs.declared.Ends.{Ends}
 use Rattle.clock.specs.declared.hybrid.HybridClock.{HybridClock}
 use Rattle.clock.specs.Vector.{authors_of, numbers_of}

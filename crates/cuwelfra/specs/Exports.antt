@@ -2,7 +2,7 @@
 use Rattle.words.specs.Names.{Bytes, Area}
 use Rattle.words.specs.Areas.{put_at}
 use Rattle.std.specs.declared.result.Result.TheVariants.{Ok, Err}
-use Rattle.error.specs.Answer.{Answer, done, refused, ends}
+use Rattle.error.specs.Answer.{Answer, ends}
 use Rattle.error.specs.declared.Ends.{Ends}
 
 abbrev pub exported : {A L T : Type 0} → (Answer A → T) → Ends A L → T × L

@@ -2,7 +2,7 @@
 use Rattle.std.specs.Prelude.{ℕ}
 use Rattle.words.specs.Names.{Author, Time}
 use Rattle.std.specs.declared.result.Result.TheVariants.{Ok, Err}
-use Rattle.error.specs.Answer.{Answer, done, refused, told_by}
+use Rattle.error.specs.Answer.{Answer, told_by}
 use Rattle.error.specs.declared.Ends.{Ends}
 use Rattle.clock.specs.declared.stamp.Timestamp.{Timestamp}
 use Rattle.std.specs.declared.cmp.Ordering.{Ordering}

@@ -3,7 +3,7 @@ use Rattle.std.specs.Prelude.{ℕ, length}
 use Rattle.words.specs.Names.{Bytes, Area}
 use Rattle.error.specs.Numbers.{told_of}
 use Rattle.std.specs.declared.result.Result.TheVariants.{Ok, Err}
-use Rattle.error.specs.Answer.{Answer, done, refused, accepted}
+use Rattle.error.specs.Answer.{Answer, accepted}
 use Rattle.message.specs.Messages.{Message, hello, delta, ack, ping, pong}
 use Rattle.message.specs.Reading.{Frame}
 use Rattle.message.specs.Calls.{message_call, clock_left, rows_left, frame_call, message_in}

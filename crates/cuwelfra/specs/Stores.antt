@@ -6,7 +6,7 @@ use Rattle.words.specs.Areas.{put_at}
 use Rattle.error.specs.declared.Refusal.TheVariants.{ShortArea}
 use Rattle.error.specs.Numbers.{told_of}
 use Rattle.std.specs.declared.result.Result.TheVariants.{Ok, Err}
-use Rattle.error.specs.Answer.{Answer, done, refused, unless, accepted, ends, Got, got, bad}
+use Rattle.error.specs.Answer.{Answer, done, refused, unless, accepted, ends, Got}
 use Rattle.error.specs.declared.Ends.{Ends}
 use Rattle.clock.specs.Vector.{clock_of}
 use Rattle.clock.specs.Area.{clock_bytes}

@@ -119,5 +119,5 @@ pub extern "C" fn cuwelfra_set_floor(
     ensures { (result, areas log.now held.now head.new) ≡ exported told_by (set_floor_call (areas log.now held.now head.old) (stamp_by wall_time logical_counter actor_id)) }
 {
     let stamp = crate::hybrid::stamp_by(wall_time, logical_counter, actor_id);
-    crate::store::outcome_told(merge::floor::set_floor(log, held, head, stamp))
+    crate::store::told_by(merge::floor::set_floor(log, held, head, stamp))
 }

@@ -177,7 +177,7 @@ pub extern "C" fn cuwelfra_get_bytes(s: &[u8], at: usize, max: u64) -> PartTold
 pub extern "C" fn cuwelfra_finish(s: &[u8], at: usize) -> Told
     ensures { result ≡ told_by (finish s.now at) }
 {
-    crate::store::outcome_told(codec::reader::finish(s, at))
+    crate::store::told_by(codec::reader::finish(s, at))
 }
 
 // How many bytes remain.

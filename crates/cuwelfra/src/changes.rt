@@ -15,7 +15,7 @@ use error::Told;
 pub extern "C" fn cuwelfra_insert(log: &mut [u8], held: &[u8], head: &mut [u8], slot: &[u8]) -> Told
     ensures { (result, areas log.new held.now head.new) ≡ exported told_by (insert_call (areas log.old held.now head.old) slot.now) }
 {
-    crate::store::outcome_told(replicated_log::change::insert(log, held, head, slot))
+    crate::store::told_by(replicated_log::change::insert(log, held, head, slot))
 }
 
 // Makes the store anew from the rows of `count` slots and a compacted clock.
@@ -30,7 +30,7 @@ pub extern "C" fn cuwelfra_from_parts(
 ) -> Told
     ensures { (result, areas log.new held.new head.new) ≡ exported told_by (from_parts_call (areas log.old held.old head.old) parts.now count compacted.now) }
 {
-    crate::store::outcome_told(replicated_log::change::from_parts(
+    crate::store::told_by(replicated_log::change::from_parts(
         log, held, head, parts, count, compacted,
     ))
 }

@@ -113,5 +113,5 @@ pub extern "C" fn cuwelfra_seal(
 ) -> Told
     ensures { (result, areas log.new held.now head.new) ≡ exported told_by (seal_call (areas log.old held.now head.old) bytes.now signature.now) }
 {
-    crate::store::outcome_told(engine::sealing::seal(log, held, head, bytes, signature))
+    crate::store::told_by(engine::sealing::seal(log, held, head, bytes, signature))
 }

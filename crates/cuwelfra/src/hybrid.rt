@@ -103,7 +103,7 @@ fn updated_told(r: Updated) -> UpdatedTold
     ensures { result ≡ updated_told r }
 {
     UpdatedTold {
-        told: crate::store::outcome_told(r.answer),
+        told: crate::store::told_by(r.answer),
         last_wall: r.left.last_wall,
         last_counter: u64::from(r.left.last_counter),
     }

@@ -8,7 +8,7 @@ ghost use Rattle.cuwelfra.specs.Exports.{exported, written_back};
 ghost use Rattle.cuwelfra.specs.Peers.{new_peer_area, started_area, lost_area, absorb_area, replace_area, record_ping_area, take_pong_area, rebase_area, pending_ops_area};
 ghost use Rattle.cuwelfra.specs.Inside.LentRecords.{record_in};
 
-use crate::store::outcome_told;
+use crate::store::told_by;
 use crate::vector::{ClockTold, clock_told};
 use error::{Refusal, Told};
 use peer::{Peer, PeerAnswer};
@@ -43,7 +43,7 @@ fn keep_peer(area: &mut [u8], r: PeerAnswer) -> Told
     if r.answer.is_ok() {
         peer::raw::store_peer(area, r.left);
     }
-    outcome_told(r.answer)
+    told_by(r.answer)
 }
 
 // Makes the area the record of a new peer.

@@ -26,7 +26,7 @@ pub struct StampTold {
     pub actor_id: u64,
 }
 
-pub(crate) fn outcome_told(r: Result<(), Refusal>) -> Told
+pub(crate) fn told_by(r: Result<(), Refusal>) -> Told
     ensures { result ≡ told_by r }
 {
     match r {
@@ -68,7 +68,7 @@ pub(crate) fn stamp_told(r: Result<Option<Timestamp>, Refusal>) -> StampTold
 pub extern "C" fn cuwelfra_store_check(log: &[u8], held: &[u8], head: &[u8]) -> Told
     ensures { result ≡ told_by (check_call (areas log.now held.now head.now)) }
 {
-    outcome_told(replicated_log::check::check_store(log, held, head))
+    told_by(replicated_log::check::check_store(log, held, head))
 }
 
 #[unsafe(no_mangle)]

@@ -6,7 +6,7 @@ ghost use Rattle.cuwelfra.specs.Vectors.{new_area, observe_area, increment_area,
 ghost use Rattle.cuwelfra.specs.Exports.{exported, if_done};
 ghost use Rattle.clock.specs.Area.{clock_bytes};
 
-use crate::store::outcome_told;
+use crate::store::told_by;
 use clock::vector::{CausalOrder, VectorClock};
 use error::{Refusal, Told};
 use stubs::ActorId;
@@ -104,7 +104,7 @@ pub extern "C" fn cuwelfra_clock_observe(clock: &mut [u8], actor: u64, seq: u64)
     let mut own = clock::raw::load_clock(clock, 0);
     let answer = own.observe(ActorId(actor), seq);
     keep(clock, answer, &own);
-    outcome_told(answer)
+    told_by(answer)
 }
 
 #[unsafe(no_mangle)]
@@ -134,7 +134,7 @@ pub extern "C" fn cuwelfra_clock_merge(clock: &mut [u8], other: &[u8]) -> Told
     let mut own = clock::raw::load_clock(clock, 0);
     let answer = own.merge(&theirs);
     keep(clock, answer, &own);
-    outcome_told(answer)
+    told_by(answer)
 }
 
 #[unsafe(no_mangle)]

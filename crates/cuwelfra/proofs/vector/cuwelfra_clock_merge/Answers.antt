@@ -16,4 +16,4 @@ pub returns : goal.returns
 unfolding merge_area
 returns c =
     let args = c.args in
-    long_kept told_by _ _ _ _ _ _ _ (both_long args.clock.now args.other.now (omega arith) (omega arith)) (rw (c.load_clock-own.ensures, c.load_clock-theirs.ensures) at c.merge-answer.ensures.ended) c.keep.ensures c.outcome_told.ensures
+    long_kept told_by _ _ _ _ _ _ _ (both_long args.clock.now args.other.now (omega arith) (omega arith)) (rw (c.load_clock-own.ensures, c.load_clock-theirs.ensures) at c.merge-answer.ensures.ended) c.keep.ensures c.told_by.ensures

@@ -10,4 +10,4 @@ returns-then-clock-lt520 c = short_kept _ _ _ _ (is_short c.args.clock.now (omeg
 
 pub returns : goal.returns
 unfolding observe_area
-returns c = long_kept told_by _ _ _ _ _ _ _ (is_long c.args.clock.now (omega arith)) (rw c.load_clock-own.ensures at c.observe-answer.ensures) c.keep.ensures c.outcome_told.ensures
+returns c = long_kept told_by _ _ _ _ _ _ _ (is_long c.args.clock.now (omega arith)) (rw c.load_clock-own.ensures at c.observe-answer.ensures) c.keep.ensures c.told_by.ensures
