@@ -1,11 +1,11 @@
 -- The derived comparisons of stamps, which go field by field, are the order of specs/Order.antt.
 use Prim.Native.Nat.{ℕ, ◌<◌, ◌≤◌}
 use mathlib.Core.Path.{◌≡◌, sym}
-use mathlib.Core.Bool.{true}
+use mathlib.Core.Bool.{true, not}
 use mathlib.Core.Logic.{◌⊎◌, inl, inr}
 use native.Mathlib.Omega.{arith}
 use borrow.Author.Tests.{lt-ltb, le-ltb, eq-eqb, ne_eqb}
-use Rattle.std.specs.Ordering.{is_lt, is_some_and, partial_ordering_then, nat_cmp}
+use Rattle.std.specs.Ordering.{is_lt, is_le, is_some_and, partial_ordering_then, nat_cmp}
 use Rattle.std.specs.declared.option.Option.TheVariants.{Some}
 use Rattle.std.specs.declared.cmp.Ordering.TheVariants.{Less, Equal, Greater}
 use Rattle.clock.specs.Order.{stamp_less, stamp_key, stamp_order, FieldByField}
@@ -42,6 +42,33 @@ module _ (s t : Timestamp) where
         | above l ↦
             let not_below : t.actor_id.0 ≤ s.actor_id.0 = omega arith in
             rw (cmp_above s.actor_id.0 t.actor_id.0 l, not_third _ _ _ _ _ _ h k not_below)
+      ])
+    ])
+  ]
+
+-- the derived `<=`, turned round, is the same order
+module _ (s t : Timestamp) where
+  pub derived_not_above :
+      not
+      (is_some_and is_le
+      (partial_ordering_then (Some (nat_cmp t.wall_time s.wall_time))
+      (partial_ordering_then (Some (nat_cmp t.logical_counter s.logical_counter)) (Some (nat_cmp t.actor_id.0 s.actor_id.0)))))
+      ≡ stamp_less s t
+  unfolding stamp_less stamp_key
+  derived_not_above = elim (tri s.wall_time t.wall_time) [
+    | below h ↦ rw (cmp_above t.wall_time s.wall_time h, less_first _ _ _ _ _ _ h)
+    | above h ↦ rw (cmp_below t.wall_time s.wall_time h, not_first _ _ _ _ _ _ h)
+    | level h ↦ rw (cmp_level t.wall_time s.wall_time (sym h)) (elim (tri s.logical_counter t.logical_counter) [
+      | below k ↦ rw (cmp_above t.logical_counter s.logical_counter k, less_second _ _ _ _ _ _ h k)
+      | above k ↦ rw (cmp_below t.logical_counter s.logical_counter k, not_second _ _ _ _ _ _ h k)
+      | level k ↦ rw (cmp_level t.logical_counter s.logical_counter (sym k)) (elim (tri s.actor_id.0 t.actor_id.0) [
+        | below l ↦ rw (cmp_above t.actor_id.0 s.actor_id.0 l, less_third _ _ _ _ _ _ h k l)
+        | level l ↦
+            let not_below : t.actor_id.0 ≤ s.actor_id.0 = omega arith in
+            rw (cmp_level t.actor_id.0 s.actor_id.0 (sym l), not_third _ _ _ _ _ _ h k not_below)
+        | above l ↦
+            let not_below : t.actor_id.0 ≤ s.actor_id.0 = omega arith in
+            rw (cmp_below t.actor_id.0 s.actor_id.0 l, not_third _ _ _ _ _ _ h k not_below)
       ])
     ])
   ]

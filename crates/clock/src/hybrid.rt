@@ -28,7 +28,7 @@ pub type Issued = Ends<Timestamp, HybridClock>;
 pub type Updated = Ends<(), HybridClock>;
 
 // The greater of two numbers.
-#[tactic(auto, using(crate::proofs::HybridLaws::max_greater))]
+#[tactic(auto, using(crate::proofs::HybridLaws::max_greater, crate::proofs::HybridLaws::max_left, crate::proofs::HybridLaws::max_right))]
 pub fn greater(a: u64, b: u64) -> u64
     ensures { result ≡ greater a b }
 {
@@ -36,7 +36,7 @@ pub fn greater(a: u64, b: u64) -> u64
 }
 
 // The sum, or the greatest number where it does not fit.
-#[tactic(auto, using(crate::proofs::HybridLaws::min_saturating))]
+#[tactic(auto, using(crate::proofs::HybridLaws::min_saturating, crate::proofs::HybridLaws::sum_fits, crate::proofs::HybridLaws::sum_full))]
 pub fn saturating_add(a: u64, b: u64) -> u64
     ensures { result ≡ saturating a b }
 {

@@ -17,7 +17,7 @@ pub struct Timestamp {
 
 impl Timestamp {
     // Whether self comes before other.
-    #[tactic(auto, using(crate::proofs::DerivedOrder::derived_less))]
+    #[tactic(auto, using(crate::proofs::DerivedOrder::derived_less, crate::proofs::DerivedOrder::derived_not_above))]
     pub fn less(self, other: Timestamp) -> bool
         ensures { result ≡ stamp_less self other }
     {

@@ -1,13 +1,13 @@
 // No call of document 01: the parts of this crate's calls. Those that write require that the room is there, and serve the
-// crates above, which have tested that; `part_of` requires a part of the slice.
+// crates above, which have tested that; `bytes_of` and `part_of` require a part of the slice.
 ghost use Rattle.std.specs.Prelude.{◌≡◌, ◌+◌, ◌%◌, ◌≤◌, length};
 ghost use Rattle.words.specs.Areas.{behind};
 ghost use Rattle.codec.specs.Leb128.{shortest};
 ghost use Rattle.codec.specs.Reading.{part_of};
 ghost use Rattle.codec.specs.Writing.{sized};
-ghost use Rattle.codec.specs.Inside.EnvelopeParts.{room, sized_length, Stored};
+ghost use Rattle.codec.specs.Inside.EnvelopeParts.{room, sized_length, Stored, Within, part_in, part_place};
 
-use crate::Part;
+use crate::{Part, Read};
 use error::Refusal;
 
 // The low seven bits of a number: the last byte of its varint.
@@ -73,10 +73,21 @@ pub fn past_sized(len: usize, at: usize, n: usize) -> Result<usize, Refusal>
 }
 
 // The bytes of a part of s.
-pub fn part_of(s: &[u8], part: Part) -> &[u8]
+pub fn bytes_of(s: &[u8], part: Part) -> &[u8]
     requires { part.start + part.len ≤ length s.now }
     ensures { (result.now ≡ part_of s.now part) × (result.ref_ptr ≡ behind s.entry.ref_ptr part.start) }
 {
     let end = part.start + part.len;
     &s[part.start..end]
+}
+
+// The part of s that was read, the empty one at its start where it was refused.
+pub fn part_of(s: &[u8], read: Read<Part>) -> &[u8]
+    requires { Within (length s.now) read }
+    ensures { (result.now ≡ part_in s.now read) × (result.ref_ptr ≡ part_place s.entry.ref_ptr read) }
+{
+    match read {
+        Ok((part, _)) => bytes_of(s, part),
+        Err(_) => &s[0..0],
+    }
 }

@@ -67,7 +67,7 @@ impl<'a> Reader<'a> {
     {
         let (part, next) = crate::get_bytes(self.buf, self.pos, max)?;
         self.pos = next;
-        Ok(raw::part_of(self.buf, part))
+        Ok(raw::bytes_of(self.buf, part))
     }
 
     // How many bytes remain.

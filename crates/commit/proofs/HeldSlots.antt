@@ -96,7 +96,7 @@ gather_start held s n = record {
 }
 
 module _ (held₀ held s : List ℕ) (n kept p k : ℕ) (e : k ≡ get64 s (16 * p)) (l : p < n) (g : Gathering held₀ held s n kept p) where
-  gather_from : SlotsRise s n → k < 64 → kept ≤ k
+  pub gather_from : SlotsRise s n → k < 64 → kept ≤ k
   gather_from r h = omega (arith, g.counts, before_ref_lem s n p r l (omega arith))
 
   pub gather_held : (t : List ℕ) → SlotsRise s n → k < 64 → SlotSet held t kept (slot_at held (704 * k)) → Gathering held₀ t s n (kept + 1) (p + 1)

@@ -69,7 +69,7 @@ module _ (a : Areas) (l : Limits) (time : ℕ) (batch scratch output : List ℕ)
       answer_of_lem s rows o.within e b (rw (p, q, ← o.counts, o.taken.counted) f) ∙ m
 
   -- where the rows of a batch start that was read
-  begins : (starts : List ℕ) (n count : ℕ) → Opened a l time batch scratch starts n count → RowsBegin batch starts
+  pub begins : (starts : List ℕ) (n count : ℕ) → Opened a l time batch scratch starts n count → RowsBegin batch starts
   begins starts n count o =
       let t = o.taken in
       record {

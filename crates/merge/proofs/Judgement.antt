@@ -138,7 +138,7 @@ module _ {a : Areas} {l : Limits} {time : ℕ} {batch scratch starts : List ℕ}
   unfolding decode_store
   held_is = rw count_is (ap (λ s. s.held) (sym is))
 
-  opened_long : 704 * count ≤ length a.held
+  pub opened_long : 704 * count ≤ length a.held
   opened_long = omega (arith, o.counts, k.held_few, p.long.held)
 
   pub used_long : 704 * count ≡ length u

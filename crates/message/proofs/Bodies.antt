@@ -12,10 +12,11 @@ use Rattle.words.proofs.Words.{test}
 use Rattle.error.specs.declared.Refusal.{Refusal}
 use Rattle.error.specs.declared.Refusal.TheVariants.{OverCapacity, Truncated, TooLarge, InvalidTag}
 use Rattle.std.specs.declared.result.Result.TheVariants.{Ok, Err}
-use Rattle.error.specs.Answer.{done, refused, nothing, Got, got, bad, after}
+use Rattle.error.specs.Answer.{Answer, done, refused, nothing, and_then, Got, got, bad, after}
 use Rattle.clock.specs.declared.vector.VectorClock.{VectorClock}
 use Rattle.clock.specs.Vector.{clock_of}
 use Rattle.codec.specs.Reading.{get_u8, get_varint, get_count, finish}
+use Rattle.codec.specs.Envelopes.{closed}
 use Rattle.codec.proofs.ReadSteps.{after_got, need_got, got_value, got_next, closed_done}
 use Rattle.row.specs.Rows.{Row}
 use Rattle.message.specs.Messages.{Message, hello, delta, ack, ping, pong}
@@ -122,12 +123,30 @@ module _ (s : List ℕ) (at : ℕ) where
         rw (e, t.is) (ap (λ (m : ℕ). got (body.Delta m) next) (sym (rows_count s n first t.rows next t.is)))
 
 -- ---- the whole body
+closed_make : (s : List ℕ) (make : ℕ → Message) (g : Got ℕ) → closed s (message_by make g) ≡ and_then (closed s g) (λ v. done (make v))
+closed_make s make (Ok (v, n)) = ended (finish s n)
+  where
+    ended : (f : Answer Unit) → and_then f (λ end. done (make v)) ≡ and_then (and_then f (λ end. done v)) (λ v. done (make v))
+    ended (Ok u) = refl
+    ended (Err k) = refl
+closed_make s make (Err k) = refl
+
 module _ (s : List ℕ) where
-  pub no_tag : {k : Refusal} → get_u8 s 0 ≡ bad k → refused k ≡ closed_by (read_message s)
-  unfolding read_message closed_by
+  pub no_tag : {k : Refusal} → get_u8 s 0 ≡ bad k → read_message s ≡ refused k
+  unfolding read_message
   no_tag e = rw e
 
   module _ {tag at : ℕ} (e : get_u8 s 0 ≡ got tag at) where
+    -- a Ping or Pong
+    pub ping_read : tag ≡ 3 → read_message s ≡ and_then (closed s (get_varint s at)) (λ v. done (ping v))
+    unfolding read_message get_body
+    ping_read t = rw (e, t) (closed_make s ping (get_varint s at))
+
+    pub pong_read : tag ≡ 4 → read_message s ≡ and_then (closed s (get_varint s at)) (λ v. done (pong v))
+    unfolding read_message get_body
+    pong_read t = rw (e, t) (closed_make s pong (get_varint s at))
+
+    -- a body of any kind
     pub closed_refused : {k : Refusal} → bad k ≡ body_by (get_body tag s at) → refused k ≡ closed_by (read_message s)
     unfolding read_message closed_by body_by
     closed_refused f = let x = unseen body_of (get_body tag s at) f in rw (e, x)

@@ -10,7 +10,7 @@ use Rattle.words.proofs.Puts.{put_nil, put_put, length_put}
 use Rattle.std.specs.Result.{IsOk}
 use Rattle.error.specs.declared.Refusal.{Refusal}
 use Rattle.std.specs.declared.result.Result.TheVariants.{Ok, Err}
-use Rattle.error.specs.Answer.{done, refused, Got, got, bad, after}
+use Rattle.error.specs.Answer.{refused, Got, got, bad, after}
 use Rattle.codec.proofs.ReadSteps.{after_got, got_value, got_next}
 use Rattle.row.specs.Rows.{Row, HeldRow, logged}
 use Rattle.row.specs.Slots.{encode_held, encode_slots}
@@ -38,24 +38,15 @@ module _ (s : List ℕ) (n at : ℕ) where
   unfolding get_rows checked
   checked_stop e = rw e
 
--- i of n rows are tested
-pub record Checking (s : List ℕ) (at n next i : ℕ) : Type 0 where
-  pub same : checked (get_rows s n at) ≡ checked (get_rows s (n - i) next)
+  checked_by : (g : Got Row) → get_signed s at ≡ g → checked (get_rows s (suc n) at) ≡ checked (after g (λ row end. get_rows s n end))
+  unfolding checked
+  checked_by (Ok (row, end)) e = checked_more e
+  checked_by (Err k) e = checked_stop e
 
-module _ {s : List ℕ} {at n next i : ℕ} (g : Checking s at n next i) where
-  pub checked_all : n ≤ i → done next ≡ checked (get_rows s n at)
-  unfolding checked get_rows
-  checked_all h = let z : n - i ≡ 0 = omega arith in rw (g.same, z)
-
-  module _ (h : i < n) where
-    one : checked (get_rows s n at) ≡ checked (get_rows s (suc (n - (i + 1))) next)
-    one = let z : n - i ≡ suc (n - (i + 1)) = omega arith in g.same ∙ rw z
-
-    pub checking_stops : {k : Refusal} → bad k ≡ get_signed s next → refused k ≡ checked (get_rows s n at)
-    checking_stops e = sym (one ∙ checked_stop s (n - (i + 1)) next (sym e))
-
-    pub checking_more : {row : Row} {end : ℕ} → got row end ≡ get_signed s next → Checking s at n end (i + 1)
-    checking_more e = record { same = one ∙ checked_more s (n - (i + 1)) next (sym e) }
+-- the next of n rows, of which i are tested
+pub checked_next : (s : List ℕ) (n i next : ℕ) → i < n
+    → checked (get_rows s (n - i) next) ≡ checked (after (get_signed s next) (λ row end. get_rows s (n - (i + 1)) end))
+checked_next s n i next h = let z : n - i ≡ suc (n - (i + 1)) = omega arith in rw z (checked_by s (n - (i + 1)) next (get_signed s next) refl)
 
 -- ---- written
 abbrev logged_held : StampedOperation → Held
@@ -105,6 +96,9 @@ writing_none s at n area r h =
     }
 
 module _ {s : List ℕ} {at n : ℕ} {area₀ area : List ℕ} {next i : ℕ} (g : Writing s at n area₀ area next i) where
+  pub writing_size : i ≤ n → length area ≡ length area₀
+  writing_size upto = ap length g.put ∙ length_put area₀ (slots_of g.written) 0 (omega (arith, g.room, g.long, upto))
+
   pub written_all : n ≤ i → area ≡ put_at area₀ 0 (encode_slots (logged_rows (rows_in (get_rows s n at))))
   unfolding get_rows slots_of
   written_all h =
@@ -142,9 +136,7 @@ module _ {s : List ℕ} {at n : ℕ} {area₀ area : List ℕ} {next i : ℕ} (g
     writing_goes_on r e = goes_on r (e ∙ next_row.is)
 
     pub slot_room : 704 * (i + 1) ≤ length area
-    slot_room =
-        let size : length area ≡ length area₀ = ap length g.put ∙ length_put area₀ (slots_of g.written) 0 (omega (arith, g.room, g.long)) in
-        omega (arith, g.room)
+    slot_room = omega (arith, g.room, writing_size (omega arith))
 
     pub writing_more : {r : Got StampedOperation} (o : StampedOperation) {stop : ℕ} (area' : List ℕ) → signed_read_of s r ≡ get_signed s next → r ≡ got o stop → OpFits s o
         → area' ≡ put_at area (704 * i) (encode_held (logged (row_of s o))) → Writing s at n area₀ area' stop (i + 1)

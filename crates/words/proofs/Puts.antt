@@ -7,7 +7,7 @@ use native.Mathlib.Nat.{add-zero}
 use native.Mathlib.Numerals.{add-one}
 use native.Mathlib.Omega.{arith}
 use lib.ListN.{length, take, drop, get_or, set, replicate, length-append, length-take, length-drop, length-replicate, take-append-drop, replicate-append-replicate}
-use lib.Seq.{take-suc, take_at, drop_at, drop-drop, length-take-le, get_or-set_same, get_or-set_other}
+use lib.Seq.{take-suc, take-length, take_at, drop_at, drop-drop, length-take-le, paste, paste-suc, get_or-set_same, get_or-set_other}
 use borrow.Rule.Slice.PartMut.{put_mid}
 use Rattle.std.specs.Int.{w64, to_be_bytes}
 use Rattle.words.specs.Be.{be64, bes}
@@ -77,6 +77,14 @@ fill_turn f l i v h e p k m =
           let z : k ≡ i = omega arith in
           rw z (get_or-set_same l i v 0 h ∙ e)
     ]
+
+-- copies
+pub copy_turn : (d₀ d s : List ℕ) (at i : ℕ) → d ≡ paste d₀ at s i → at + length s ≤ length d₀ → i < length s → set d (at + i) (get_or s i 0) ≡ paste d₀ at s (i + 1)
+copy_turn d₀ d s at i e h k = rw (e, add-one) (paste-suc d₀ at s i 0 (omega arith) k)
+
+pub copy_done : (d₀ d s : List ℕ) (at i : ℕ) → d ≡ paste d₀ at s i → i ≡ length s → d ≡ put_at d₀ at s
+unfolding put_at
+copy_done d₀ d s at i e h = e ∙ rw (h, take-length s)
 
 -- a field that is put where zeros stand
 pub put_pad : (s out vs : List ℕ) (a size rest : ℕ) → s ≡ out ++ replicate (size + rest) 0 → length out ≡ a → length vs ≤ size

@@ -52,6 +52,13 @@ read : (s : List ℕ) (at : ℕ) → at + 8 ≤ length s → from_be_bytes w64 (
 unfolding get64
 read s at h = rw (eight s at h) refl
 
+-- the eight bytes at a place are a word
+pub word_here : (s : List ℕ) (at : ℕ)
+    → from_be_bytes w64 (get_or s at 0 ∷ get_or s (at + 1) 0 ∷ get_or s (at + 2) 0 ∷ get_or s (at + 3) 0 ∷ get_or s (at + 4) 0 ∷ get_or s (at + 5) 0 ∷ get_or s (at + 6) 0 ∷ get_or s (at + 7) 0 ∷ [])
+    ≡ get64 s at
+unfolding get64
+word_here s at = refl
+
 -- eight bytes that are read are a word
 pub word_read : (s b : List ℕ) (at : ℕ) → at + 8 ≤ length s → b ≡ take (at + 8 - at) (drop at s) → from_be_bytes w64 b ≡ get64 s at
 word_read s b at h e =

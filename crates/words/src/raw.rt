@@ -6,14 +6,21 @@ ghost use Rattle.words.specs.Areas.{put_at, Zero};
 ghost use Rattle.words.specs.Choice.{Tells};
 ghost use Rattle.words.specs.Inside.Moves.{ZeroIn, moved_up, moved_down};
 
-// The big-endian word at `at`.
+// The big-endian word at `at`. It compiles to one load, which eight bytes copied by `copy_from_slice` do not always.
 pub fn get_word(s: &[u8], at: usize) -> u64
     requires { at + 8 ≤ length s.now }
     ensures { result ≡ get64 s.now at }
 {
-    let mut bytes = [0; 8];
-    bytes.copy_from_slice(&s[at..at + 8]);
-    u64::from_be_bytes(bytes)
+    u64::from_be_bytes([
+        s[at],
+        s[at + 1],
+        s[at + 2],
+        s[at + 3],
+        s[at + 4],
+        s[at + 5],
+        s[at + 6],
+        s[at + 7],
+    ])
 }
 
 // Writes v at `at` as a big-endian word.
@@ -21,7 +28,7 @@ pub fn put_word(s: &mut [u8], at: usize, v: u64)
     requires { at + 8 ≤ length s.old }
     ensures { s.new ≡ put_at s.old at (be64 v) }
 {
-    s[at..at + 8].copy_from_slice(&v.to_be_bytes());
+    copy(s, at, &v.to_be_bytes());
 }
 
 // Writes words one after the other from `at` on.
@@ -61,12 +68,15 @@ fn block_is_zero(s: &[u8], at: usize, n: usize) -> bool
     zero
 }
 
-// Copies all of s to d, from `at` on.
+// Copies all of s to d, from `at` on. A loop: `copy_from_slice` compiles to a call of `memmove`, which the library for C would
+// then need from outside.
 pub fn copy(d: &mut [u8], at: usize, s: &[u8])
     requires { at + length s.now ≤ length d.old }
     ensures { d.new ≡ put_at d.old at s.now }
 {
-    d[at..at + s.len()].copy_from_slice(s);
+    for (i, x) in s.iter().enumerate() {
+        d[at + i] = *x;
+    }
 }
 
 // Moves the bytes from `from` up to `to` up by `by`, in place.

@@ -10,13 +10,13 @@ pub returns-in_err-envelope : goal.returns-in_err-envelope
 returns-in_err-envelope c =
     no_envelope _ _ _ c.if-clock-lt520.false _ _ (handed_on c.from_residual.ensures) (sym c.in_err-envelope.ensures) refl refl
 
-pub part_of-body-requires : goal.part_of-body-requires
-part_of-body-requires c = body_inside _ _ (sym c.in_ok-envelope.ensures)
+pub bytes_of-body-requires : goal.bytes_of-body-requires
+bytes_of-body-requires c = body_inside _ _ (sym c.in_ok-envelope.ensures)
 
 pub returns-in_err-kind : goal.returns-in_err-kind
 returns-in_err-kind c =
-    frame_unread _ _ _ c.if-clock-lt520.false (sym c.in_ok-envelope.ensures) _ _ _ c.part_of-body.ensures.0 (handed_on c.from_residual-in_err-kind.ensures) c.in_err-kind.ensures
+    frame_unread _ _ _ c.if-clock-lt520.false (sym c.in_ok-envelope.ensures) _ _ _ c.bytes_of-body.ensures.0 (handed_on c.from_residual-in_err-kind.ensures) c.in_err-kind.ensures
 
 pub returns : goal.returns
 returns c =
-    frame_read _ _ _ c.if-clock-lt520.false (sym c.in_ok-envelope.ensures) _ _ _ c.part_of-body.ensures.0 c.in_ok-kind.ensures
+    frame_read _ _ _ c.if-clock-lt520.false (sym c.in_ok-envelope.ensures) _ _ _ c.bytes_of-body.ensures.0 c.in_ok-kind.ensures

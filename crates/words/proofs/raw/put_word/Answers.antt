@@ -1,8 +1,7 @@
-use mathlib.Core.Path.{◌∙◌}
-use native.Mathlib.Omega.{arith}
-use Rattle.words.proofs.Puts.{put_part, length_be, word_bytes}
+use mathlib.Core.Path.{◌∙◌, ap}
+use Rattle.words.specs.Areas.{put_at}
+use Rattle.words.proofs.Puts.{word_bytes}
 use Rattle.words.proofs.raw.put_word.Goals as goal
 
 pub returns : goal.returns
-returns c =
-    put_part _ _ _ _ _ (c.copy_from_slice.ensures.after ∙ c.to_be_bytes.ensures ∙ word_bytes c.args.v) (omega (arith, length_be c.args.v))
+returns c = c.copy.ensures ∙ ap (put_at c.args.s.now c.args.at) (c.to_be_bytes.ensures ∙ word_bytes c.args.v)

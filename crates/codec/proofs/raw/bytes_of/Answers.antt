@@ -2,7 +2,7 @@ use mathlib.Core.Path.{refl, ap}
 use native.Mathlib.Omega.{arith}
 use lib.ListN.{take, drop}
 use Rattle.codec.specs.Reading.{part_of}
-use Rattle.codec.proofs.raw.part_of.Goals as goal
+use Rattle.codec.proofs.raw.bytes_of.Goals as goal
 
 pub returns : goal.returns
 unfolding part_of
