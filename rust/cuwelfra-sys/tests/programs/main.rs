@@ -3,3 +3,4 @@
 mod abi;
 mod building;
 mod example;
+mod outside;
