@@ -10,7 +10,7 @@ use Rattle.words.proofs.Puts.{put_nil, put_put, length_put}
 use Rattle.std.specs.Result.{IsOk}
 use Rattle.error.specs.declared.Refusal.{Refusal}
 use Rattle.std.specs.declared.result.Result.TheVariants.{Ok, Err}
-use Rattle.error.specs.Answer.{refused, Got, got, bad, after}
+use Rattle.error.specs.Answer.{done, refused, Got, got, bad, after}
 use Rattle.codec.proofs.ReadSteps.{after_got, got_value, got_next}
 use Rattle.row.specs.Rows.{Row, HeldRow, logged}
 use Rattle.row.specs.Slots.{encode_held, encode_slots}
@@ -47,6 +47,23 @@ module _ (s : List ℕ) (n at : ℕ) where
 pub checked_next : (s : List ℕ) (n i next : ℕ) → i < n
     → checked (get_rows s (n - i) next) ≡ checked (after (get_signed s next) (λ row end. get_rows s (n - (i + 1)) end))
 checked_next s n i next h = let z : n - i ≡ suc (n - (i + 1)) = omega arith in rw z (checked_by s (n - (i + 1)) next (get_signed s next) refl)
+
+-- i of n rows are tested
+pub record Checking (s : List ℕ) (at n next i : ℕ) : Type 0 where
+  pub same : checked (get_rows s n at) ≡ checked (get_rows s (n - i) next)
+
+module _ {s : List ℕ} {at n next i : ℕ} (g : Checking s at n next i) where
+  pub checked_all : n ≤ i → done next ≡ checked (get_rows s n at)
+  unfolding checked get_rows
+  checked_all h = let z : n - i ≡ 0 = omega arith in rw (g.same, z)
+
+  module _ (h : i < n) where
+    pub checking_stops : {k : Refusal} → bad k ≡ get_signed s next → refused k ≡ checked (get_rows s n at)
+    unfolding checked
+    checking_stops e = rw (g.same, checked_next s n i next h, ← e)
+
+    pub checking_more : {row : Row} {end : ℕ} → got row end ≡ get_signed s next → Checking s at n end (i + 1)
+    checking_more e = record { same = g.same ∙ checked_next s n i next h ∙ rw (← e) }
 
 -- ---- written
 abbrev logged_held : StampedOperation → Held
