@@ -52,6 +52,7 @@ checked_next s n i next h = let z : n - i ≡ suc (n - (i + 1)) = omega arith in
 pub record Checking (s : List ℕ) (at n next i : ℕ) : Type 0 where
   pub same : checked (get_rows s n at) ≡ checked (get_rows s (n - i) next)
 
+-- to cite: the end, a refused row, a row that is read. The check of check_rows goes by checked_next alone.
 module _ {s : List ℕ} {at n next i : ℕ} (g : Checking s at n next i) where
   pub checked_all : n ≤ i → done next ≡ checked (get_rows s n at)
   unfolding checked get_rows
